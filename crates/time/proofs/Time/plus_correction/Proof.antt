@@ -1,0 +1,34 @@
+-- `Time::plus_correction`: the words' sum is the sum in ℤ.
+use Prim.Native.Nat.{_^_}
+use mathlib.Core.Path.{sym, ap, _∙_}
+use native.Mathlib.Omega.{arith}
+use lib.IntN.{ℤ, _+ℤ_}
+use Rattle.time.specs.Units.{time, timeOf}
+use Rattle.time.proofs.Checked.{span-sub}
+use Rattle.time.proofs.Sums.{plus-is}
+use borrow.Author.Needs.{needs}
+use Rattle.time.proofs.Time.plus_correction.Statement.{statement}
+use Rattle.time.proofs.Time.plus_correction.Tie as tie
+
+scaled-requires : tie.Need-scaled-requires
+scaled-requires c κs = search needs
+
+add-requires : tie.Need-add-requires
+add-requires c κs = search needs
+
+checked-time-requires : tie.Need-checked-time-requires
+checked-time-requires c κs = search needs
+
+returns : tie.Need-returns
+unfolding time
+returns c =
+    let t = c .before .before .before .before .args .self in
+    let d = c .before .before .before .scaled in
+    c .checked-time .ensures
+    ∙ ap timeOf
+    (sym (ap (λ (z : ℤ). time t +ℤ z) (sym (d .ensures) ∙ span-sub _ _ (omega (arith, d .ok)) (omega (arith, d .ok)))
+    ∙ plus-is _ _ _ _ _ (2 ^ 128) (c .before .before .add .ensures .0)))
+
+pub plus-correction-spec : {M : Type 1} → statement M
+plus-correction-spec =
+    tie.close (tie.spec scaled-requires add-requires checked-time-requires returns)

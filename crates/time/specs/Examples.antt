@@ -1,0 +1,162 @@
+-- Worked examples, each computed: those of document 01 and the ends of each range. One unit is 2 ^ -32 ns.
+use mathlib.Core.Path.{_≡_, refl}
+use Prim.Native.Nat.{_+_, _-_, _*_, _^_}
+use lib.IntN.{ℤ, pos, negℤ, _+ℤ_, _-ℤ_}
+use Rattle.time.specs.declared.TimeAnswer.the-variants as T
+use Rattle.time.specs.declared.DurationAnswer.the-variants as D
+use Rattle.time.specs.declared.WireAnswer.the-variants as W
+use Rattle.time.specs.declared.timer.TimerAnswer.the-variants as R
+use Rattle.time.specs.Units.{inTime, timeOf, signed, span, inSpan, spanOf, wire, timeOfWire, wireOf, correction, half}
+use Rattle.time.specs.Timers.{interval, inInterval, inDraw, syncTimer, delayTimer, syncTimerOf, delayTimerOf}
+
+-- ---- halves (01's example H, and the lowest duration)
+
+minus-three : span (record { hi = 2 ^ 64 - 1; lo = 2 ^ 64 - 3 }) ≡ negℤ (pos 3)
+unfolding span signed
+minus-three = refl
+
+half-minus-three : half (negℤ (pos 3)) ≡ negℤ (pos 1)
+unfolding half
+half-minus-three = refl
+
+half-three : half (pos 3) ≡ pos 1
+unfolding half
+half-three = refl
+
+half-minus-one : half (negℤ (pos 1)) ≡ pos 0
+unfolding half
+half-minus-one = refl
+
+half-one : half (pos 1) ≡ pos 0
+unfolding half
+half-one = refl
+
+half-lowest : half (span (record { hi = 2 ^ 63; lo = 0 })) ≡ negℤ (pos (2 ^ 126))
+unfolding span signed half
+half-lowest = refl
+
+-- ---- the ends of the ranges
+
+last-time : timeOf (pos (2 ^ 127 - 1)) ≡ T.Value (record { hi = 2 ^ 63 - 1; lo = 2 ^ 64 - 1 })
+unfolding timeOf inTime
+last-time = refl
+
+past-the-last-time : timeOf (pos (2 ^ 127)) ≡ T.Out
+unfolding timeOf inTime
+past-the-last-time = refl
+
+first-time : timeOf (pos 0) ≡ T.Value (record { hi = 0; lo = 0 })
+unfolding timeOf inTime
+first-time = refl
+
+before-the-first-time : timeOf (negℤ (pos 1)) ≡ T.Out
+unfolding timeOf inTime
+before-the-first-time = refl
+
+last-span : spanOf (pos (2 ^ 127 - 1)) ≡ D.Value (record { hi = 2 ^ 63 - 1; lo = 2 ^ 64 - 1 })
+unfolding spanOf inSpan
+last-span = refl
+
+past-the-last-span : spanOf (pos (2 ^ 127)) ≡ D.Out
+unfolding spanOf inSpan
+past-the-last-span = refl
+
+lowest-span : spanOf (negℤ (pos (2 ^ 127))) ≡ D.Value (record { hi = 2 ^ 63; lo = 0 })
+unfolding spanOf inSpan
+lowest-span = refl
+
+below-the-lowest-span : spanOf (negℤ (pos (2 ^ 127)) -ℤ pos 1) ≡ D.Out
+unfolding spanOf inSpan
+below-the-lowest-span = refl
+
+-- ---- corrections: the lowest is -2 ^ 63, or -2 ^ 79 units
+
+lowest-correction : correction (2 ^ 63) ≡ negℤ (pos (2 ^ 79))
+unfolding correction signed
+lowest-correction = refl
+
+minus-one-correction : correction (2 ^ 64 - 1) ≡ negℤ (pos 65536)
+unfolding correction signed
+minus-one-correction = refl
+
+down-to-zero : timeOf (pos (2 ^ 79) +ℤ correction (2 ^ 63)) ≡ T.Value (record { hi = 0; lo = 0 })
+unfolding timeOf inTime correction signed
+down-to-zero = refl
+
+below-zero : timeOf (pos (2 ^ 79 - 1) +ℤ correction (2 ^ 63)) ≡ T.Out
+unfolding timeOf inTime correction signed
+below-zero = refl
+
+up-to-the-last : timeOf (pos (2 ^ 127 - 1 - 2 ^ 79) -ℤ correction (2 ^ 63)) ≡ T.Value (record { hi = 2 ^ 63 - 1; lo = 2 ^ 64 - 1 })
+unfolding timeOf inTime correction signed
+up-to-the-last = refl
+
+past-the-last : timeOf (pos (2 ^ 127 - 2 ^ 79) -ℤ correction (2 ^ 63)) ≡ T.Out
+unfolding timeOf inTime correction signed
+past-the-last = refl
+
+-- ---- wire timestamps: 999,999,999 and 1,000,000,000 nanoseconds are each the number they are, and the second is sent as a second
+
+below-a-second : timeOfWire (record { seconds = 5; nanos = 999999999 }) ≡ T.Value (record { hi = 1; lo = 5999999999 * 2 ^ 32 - 2 ^ 64 })
+unfolding timeOfWire timeOf inTime wire
+below-a-second = refl
+
+a-second : timeOfWire (record { seconds = 5; nanos = 1000000000 }) ≡ timeOfWire (record { seconds = 6; nanos = 0 })
+unfolding timeOfWire timeOf inTime wire
+a-second = refl
+
+sent-with-its-fraction : wireOf (5999999999 * 2 ^ 32 + 0xabcd_ef01) ≡ W.Value (record { seconds = 5; nanos = 999999999 }) 0xabcd
+unfolding wireOf
+sent-with-its-fraction = refl
+
+last-second : timeOfWire (record { seconds = 2 ^ 48 - 1; nanos = 0 }) ≡ timeOf (pos ((2 ^ 48 - 1) * 10 ^ 9 * 2 ^ 32))
+unfolding timeOfWire timeOf inTime wire
+last-second = refl
+
+past-the-last-second : timeOfWire (record { seconds = 2 ^ 48; nanos = 0 }) ≡ T.Out
+unfolding timeOfWire timeOf inTime wire
+past-the-last-second = refl
+
+last-sent : wireOf (2 ^ 48 * 10 ^ 9 * 2 ^ 32 - 1) ≡ W.Value (record { seconds = 2 ^ 48 - 1; nanos = 999999999 }) 0xffff
+unfolding wireOf
+last-sent = refl
+
+not-sent : wireOf (2 ^ 48 * 10 ^ 9 * 2 ^ 32) ≡ W.Out
+unfolding wireOf
+not-sent = refl
+
+-- ---- timers (01's example J, and the ends of the limits)
+
+-- rounded up, from 999,999,999.9999998
+the-draw : delayTimerOf 0 (2 ^ 51 - 1) ≡ R.Value 1000000000
+unfolding delayTimerOf delayTimer inInterval inDraw interval signed
+the-draw = refl
+
+-- rounded down, from 0.0000002
+no-draw : delayTimerOf 0 0 ≡ R.Value 0
+unfolding delayTimerOf delayTimer inInterval inDraw interval signed
+no-draw = refl
+
+longest-draw : delayTimerOf 16 (2 ^ 52 - 1) ≡ R.Value 131072000000000
+unfolding delayTimerOf delayTimer inInterval inDraw interval signed
+longest-draw = refl
+
+past-the-draws : delayTimerOf 16 (2 ^ 52) ≡ R.Draw
+unfolding delayTimerOf delayTimer inInterval inDraw interval signed
+past-the-draws = refl
+
+past-the-intervals : delayTimerOf 17 (2 ^ 52) ≡ R.Interval
+unfolding delayTimerOf delayTimer inInterval inDraw interval signed
+past-the-intervals = refl
+
+shortest-sync : syncTimerOf (256 - 9) ≡ R.Value 1953125
+unfolding syncTimerOf syncTimer inInterval interval signed
+shortest-sync = refl
+
+longest-sync : syncTimerOf 16 ≡ R.Value 65536000000000
+unfolding syncTimerOf syncTimer inInterval interval signed
+longest-sync = refl
+
+below-the-intervals : syncTimerOf (256 - 10) ≡ R.Interval
+unfolding syncTimerOf syncTimer inInterval interval signed
+below-the-intervals = refl

@@ -1,0 +1,94 @@
+-- Document 01, 'Units', in its own order: what two words, a wire timestamp, a correction field and halving mean. One unit is 2 ^ -32 ns.
+-- Numbers of units stand in ℤ, or in ℕ where nothing is negative. `Timers` has the section's last part.
+use Prim.Native.Nat.{ℕ, suc, _+_, _-_, _*_, _/_, _%_, _^_}
+use mathlib.Core.Bool.{Bool, cond, _&&_}
+use lib.Dec.{ltb}
+use lib.IntN.{ℤ, pos, negsuc, negℤ, natAbs, _-ℤ_, _*ℤ_}
+use lib.Signed.{leZ, ltZ, quotZ}
+use Rattle.time.specs.declared.Time.{Time}
+use Rattle.time.specs.declared.Duration.{Duration}
+use Rattle.time.specs.declared.WireTimestamp.{WireTimestamp}
+use Rattle.time.specs.declared.TimeAnswer.{TimeAnswer}
+use Rattle.time.specs.declared.TimeAnswer.the-variants as T
+use Rattle.time.specs.declared.DurationAnswer.{DurationAnswer}
+use Rattle.time.specs.declared.DurationAnswer.the-variants as D
+use Rattle.time.specs.declared.WireAnswer.{WireAnswer}
+use Rattle.time.specs.declared.WireAnswer.the-variants as W
+
+-- ---- a time: 0 to 2 ^ 127 - 1 units
+
+-- the number that two words spell, the high one first
+abbrev pub spelled : ℕ → ℕ → ℕ
+spelled hi lo = hi * 2 ^ 64 + lo
+
+abbrev pub units : Time → ℕ
+units t = spelled (t .hi) (t .lo)
+
+unfoldable pub time : Time → ℤ
+time t = pos (units t)
+
+unfoldable pub inTime : ℤ → Bool
+inTime z = leZ (pos 0) z && ltZ z (pos (2 ^ 127))
+
+-- the time of so many units, or `Out` where no time has as many
+abbrev pub timeWords : ℤ → Time
+timeWords z = record { hi = natAbs z / 2 ^ 64; lo = natAbs z % 2 ^ 64 }
+
+unfoldable pub timeOf : ℤ → TimeAnswer
+timeOf z = cond (inTime z) (T.Value (timeWords z)) T.Out
+
+-- ---- a duration: -2 ^ 127 to 2 ^ 127 - 1 units, its two words in two's complement
+
+-- two's complement in so many bits: from half of the power on, a number stands for itself less the power
+unfoldable pub signed : ℕ → ℕ → ℤ
+signed bits n = cond (ltb n (2 ^ (bits - 1))) (pos n) (pos n -ℤ pos (2 ^ bits))
+
+unfoldable pub span : Duration → ℤ
+span d = signed 128 (spelled (d .hi) (d .lo))
+
+unfoldable pub inSpan : ℤ → Bool
+inSpan z = leZ (negℤ (pos (2 ^ 127))) z && ltZ z (pos (2 ^ 127))
+
+-- what the words of a number spell: itself, or 2 ^ 128 more where it is negative
+abbrev pub spelling : ℤ → ℕ
+spelling (pos n) = n
+spelling (negsuc n) = 2 ^ 128 - suc n
+
+-- the duration of so many units, or `Out` where no duration has as many
+abbrev pub spanWords : ℤ → Duration
+spanWords z = record { hi = spelling z / 2 ^ 64; lo = spelling z % 2 ^ 64 }
+
+unfoldable pub spanOf : ℤ → DurationAnswer
+spanOf z = cond (inSpan z) (D.Value (spanWords z)) D.Out
+
+-- ---- a wire timestamp: 48-bit seconds, 32-bit nanoseconds; 10 ^ 9 nanoseconds or more count as the number they are
+
+unfoldable pub wire : WireTimestamp → ℤ
+wire w = pos ((w .seconds * 10 ^ 9 + w .nanos) * 2 ^ 32)
+
+-- the time that a timestamp means, or `Out` where its seconds have more than 48 bits
+unfoldable pub timeOfWire : WireTimestamp → TimeAnswer
+timeOfWire w = cond (ltb (w .seconds) (2 ^ 48)) (timeOf (wire w)) T.Out
+
+-- the timestamp of so many units, whole nanoseconds, and the fraction of one cut to 16 bits ('Sent messages'); or `Out` where the seconds have more than 48 bits
+unfoldable pub wireOf : ℕ → WireAnswer
+wireOf n =
+    let nanoseconds : ℕ = n / 2 ^ 32 in
+    cond
+    (ltb (nanoseconds / 10 ^ 9) (2 ^ 48))
+    (W.Value (record { seconds = nanoseconds / 10 ^ 9; nanos = nanoseconds % 10 ^ 9 }) (n % 2 ^ 32 / 2 ^ 16))
+    W.Out
+
+-- ---- a correction field c: signed, 64 bits, 2 ^ -16 ns, so c × 65,536 units
+
+unfoldable pub correction : ℕ → ℤ
+correction c = signed 64 c *ℤ pos 65536
+
+-- ---- halving drops an odd unit towards zero: -3 gives -1
+
+unfoldable pub half : ℤ → ℤ
+half z = quotZ z (pos 2)
+
+-- half of a duration is always a duration (`Laws`, `half-is`)
+unfoldable pub halfOf : Duration → Duration
+halfOf d = spanWords (half (span d))
