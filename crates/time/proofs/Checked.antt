@@ -11,8 +11,8 @@ use borrow.Author.Tests.{lt-ltb, le-ltb}
 use Rattle.time.specs.declared.TimeAnswer.the-variants as T
 use Rattle.time.specs.declared.Duration.{Duration}
 use Rattle.time.specs.declared.DurationAnswer.the-variants as D
-use Rattle.time.specs.Units.{spelled, time, inTime, timeOf, signed, span, spanOf}
-use Rattle.time.specs.Laws.{in-time, not-below-zero, time-out, time-back, below-half, from-half, below-whole, in-span, span-out, span-back, signed-low, signed-high}
+use Rattle.time.specs.Units.{spelled, time, inTime, timeOf, signed, duration, durationOf}
+use Rattle.time.specs.Laws.{in-time, not-below-zero, time-out, time-back, below-half, from-half, below-whole, in-duration, duration-out, duration-back, signed-low, signed-high}
 use Rattle.time.specs.Lemmas.Integers.{sub-lt, sub-eq, pos-sub}
 use Rattle.time.proofs.Digits.{no-top, one-top}
 
@@ -34,9 +34,9 @@ module _ (h l : ℕ) (hh : h < 2 ^ 64) (hl : l < 2 ^ 64) where
   one-off k e = ap (λ (x : ℕ). subℕ n (x * 2 ^ 128)) e ∙ sub-lt n (2 ^ 128) (below-whole h l hh hl)
 
   -- a duration as a difference of naturals: its words, less 2 ^ 128 where the top bit is set
-  pub span-sub : span both ≡ subℕ n (h / 2 ^ 63 * 2 ^ 128)
-  unfolding span
-  span-sub = go (decLt h (2 ^ 63))
+  pub duration-sub : duration both ≡ subℕ n (h / 2 ^ 63 * 2 ^ 128)
+  unfolding duration
+  duration-sub = go (decLt h (2 ^ 63))
     where
       go : Dec (h < 2 ^ 63) → signed 128 n ≡ subℕ n (h / 2 ^ 63 * 2 ^ 128)
       go (yes p) = signed-low 128 n (below-half h l p hl) ∙ sym (none-off (h / 2 ^ 63) (no-top h p))
@@ -45,19 +45,19 @@ module _ (h l : ℕ) (hh : h < 2 ^ 64) (hl : l < 2 ^ 64) where
           ∙ sym (one-off (h / 2 ^ 63) (one-top h (not-below h (2 ^ 63) p) hh))
 
   -- less k powers: a duration where k is the top bit, and otherwise out
-  pub span-fits : (k : ℕ) → k ≡ h / 2 ^ 63 → spanOf (subℕ n (k * 2 ^ 128)) ≡ D.Value both
-  span-fits k e = ap (λ (x : ℕ). spanOf (subℕ n (x * 2 ^ 128))) e ∙ ap spanOf (sym span-sub) ∙ span-back both hh hl
+  pub duration-fits : (k : ℕ) → k ≡ h / 2 ^ 63 → durationOf (subℕ n (k * 2 ^ 128)) ≡ D.Value both
+  duration-fits k e = ap (λ (x : ℕ). durationOf (subℕ n (x * 2 ^ 128))) e ∙ ap durationOf (sym duration-sub) ∙ duration-back both hh hl
 
-  pub span-off : (k : ℕ) → k ≤ 1 → (k ≡ h / 2 ^ 63 → ⊥) → spanOf (subℕ n (k * 2 ^ 128)) ≡ D.Out
-  span-off k k₁ ne = go (decLt h (2 ^ 63))
+  pub duration-off : (k : ℕ) → k ≤ 1 → (k ≡ h / 2 ^ 63 → ⊥) → durationOf (subℕ n (k * 2 ^ 128)) ≡ D.Out
+  duration-off k k₁ ne = go (decLt h (2 ^ 63))
     where
-      go : Dec (h < 2 ^ 63) → spanOf (subℕ n (k * 2 ^ 128)) ≡ D.Out
+      go : Dec (h < 2 ^ 63) → durationOf (subℕ n (k * 2 ^ 128)) ≡ D.Out
       go (yes p) =
-          ap spanOf (one-off k (omega arith))
-          ∙ span-out (negsuc (2 ^ 128 - suc n)) (in-span (negsuc (2 ^ 128 - suc n)) ∙ le-ltb _ (2 ^ 127) (comp-ge {n = n} {H = 2 ^ 127} (below-half h l p hl)))
+          ap durationOf (one-off k (omega arith))
+          ∙ duration-out (negsuc (2 ^ 128 - suc n)) (in-duration (negsuc (2 ^ 128 - suc n)) ∙ le-ltb _ (2 ^ 127) (comp-ge {n = n} {H = 2 ^ 127} (below-half h l p hl)))
       go (no p) =
-          ap spanOf (none-off k (omega arith))
-          ∙ span-out (pos n) (in-span (pos n) ∙ le-ltb n (2 ^ 127) (from-half h l (not-below h (2 ^ 63) p)))
+          ap durationOf (none-off k (omega arith))
+          ∙ duration-out (pos n) (in-duration (pos n) ∙ le-ltb n (2 ^ 127) (from-half h l (not-below h (2 ^ 63) p)))
 
   -- u powers more and d powers less: n itself where u is d, and otherwise out of the times
   abbrev moved : (u d : ℕ) → ℤ

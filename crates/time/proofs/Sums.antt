@@ -20,5 +20,5 @@ pub apart-is : (T U R k M : ℕ) → R + U ≡ T + k * M → pos T -ℤ pos U �
 apart-is T U R k M e = pos-minus T U ∙ sub-eq T U R (k * M) (omega arith)
 
 -- (A - a M) - (B - b M), by A′ and B′, the words with their top bits turned: each H more than what it stands for
-pub spans-apart-is : (A B R A′ B′ a b k H M : ℕ) → A′ + a * M ≡ A + H → B′ + b * M ≡ B + H → R + B′ ≡ A′ + k * M → subℕ A (a * M) -ℤ subℕ B (b * M) ≡ subℕ R (k * M)
-spans-apart-is A B R A′ B′ a b k H M e₁ e₂ e₃ = difference-is A (a * M) B (b * M) R (k * M) (omega arith)
+pub durations-apart-is : (A B R A′ B′ a b k H M : ℕ) → A′ + a * M ≡ A + H → B′ + b * M ≡ B + H → R + B′ ≡ A′ + k * M → subℕ A (a * M) -ℤ subℕ B (b * M) ≡ subℕ R (k * M)
+durations-apart-is A B R A′ B′ a b k H M e₁ e₂ e₃ = difference-is A (a * M) B (b * M) R (k * M) (omega arith)

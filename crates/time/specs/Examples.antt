@@ -6,13 +6,13 @@ use Rattle.time.specs.declared.TimeAnswer.the-variants as T
 use Rattle.time.specs.declared.DurationAnswer.the-variants as D
 use Rattle.time.specs.declared.WireAnswer.the-variants as W
 use Rattle.time.specs.declared.timer.TimerAnswer.the-variants as R
-use Rattle.time.specs.Units.{inTime, timeOf, signed, span, inSpan, spanOf, wire, timeOfWire, wireOf, correction, half}
+use Rattle.time.specs.Units.{inTime, timeOf, signed, duration, inDuration, durationOf, wire, timeOfWire, wireOf, correction, half}
 use Rattle.time.specs.Timers.{interval, inInterval, inDraw, syncTimer, delayTimer, syncTimerOf, delayTimerOf}
 
 -- ---- halves (01's example H, and the lowest duration)
 
-minus-three : span (record { hi = 2 ^ 64 - 1; lo = 2 ^ 64 - 3 }) ≡ negℤ (pos 3)
-unfolding span signed
+minus-three : duration (record { hi = 2 ^ 64 - 1; lo = 2 ^ 64 - 3 }) ≡ negℤ (pos 3)
+unfolding duration signed
 minus-three = refl
 
 half-minus-three : half (negℤ (pos 3)) ≡ negℤ (pos 1)
@@ -31,8 +31,8 @@ half-one : half (pos 1) ≡ pos 0
 unfolding half
 half-one = refl
 
-half-lowest : half (span (record { hi = 2 ^ 63; lo = 0 })) ≡ negℤ (pos (2 ^ 126))
-unfolding span signed half
+half-lowest : half (duration (record { hi = 2 ^ 63; lo = 0 })) ≡ negℤ (pos (2 ^ 126))
+unfolding duration signed half
 half-lowest = refl
 
 -- ---- the ends of the ranges
@@ -53,21 +53,21 @@ before-the-first-time : timeOf (negℤ (pos 1)) ≡ T.Out
 unfolding timeOf inTime
 before-the-first-time = refl
 
-last-span : spanOf (pos (2 ^ 127 - 1)) ≡ D.Value (record { hi = 2 ^ 63 - 1; lo = 2 ^ 64 - 1 })
-unfolding spanOf inSpan
-last-span = refl
+last-duration : durationOf (pos (2 ^ 127 - 1)) ≡ D.Value (record { hi = 2 ^ 63 - 1; lo = 2 ^ 64 - 1 })
+unfolding durationOf inDuration
+last-duration = refl
 
-past-the-last-span : spanOf (pos (2 ^ 127)) ≡ D.Out
-unfolding spanOf inSpan
-past-the-last-span = refl
+past-the-last-duration : durationOf (pos (2 ^ 127)) ≡ D.Out
+unfolding durationOf inDuration
+past-the-last-duration = refl
 
-lowest-span : spanOf (negℤ (pos (2 ^ 127))) ≡ D.Value (record { hi = 2 ^ 63; lo = 0 })
-unfolding spanOf inSpan
-lowest-span = refl
+lowest-duration : durationOf (negℤ (pos (2 ^ 127))) ≡ D.Value (record { hi = 2 ^ 63; lo = 0 })
+unfolding durationOf inDuration
+lowest-duration = refl
 
-below-the-lowest-span : spanOf (negℤ (pos (2 ^ 127)) -ℤ pos 1) ≡ D.Out
-unfolding spanOf inSpan
-below-the-lowest-span = refl
+below-the-lowest-duration : durationOf (negℤ (pos (2 ^ 127)) -ℤ pos 1) ≡ D.Out
+unfolding durationOf inDuration
+below-the-lowest-duration = refl
 
 -- ---- corrections: the lowest is -2 ^ 63, or -2 ^ 79 units
 
@@ -105,7 +105,7 @@ a-second : timeOfWire (record { seconds = 5; nanos = 1000000000 }) ≡ timeOfWir
 unfolding timeOfWire timeOf inTime wire
 a-second = refl
 
-sent-with-its-fraction : wireOf (5999999999 * 2 ^ 32 + 0xabcd_ef01) ≡ W.Value (record { seconds = 5; nanos = 999999999 }) 0xabcd
+sent-with-its-fraction : wireOf (pos (5999999999 * 2 ^ 32 + 0xabcd_ef01)) ≡ W.Value (record { seconds = 5; nanos = 999999999 }) 0xabcd
 unfolding wireOf
 sent-with-its-fraction = refl
 
@@ -117,11 +117,11 @@ past-the-last-second : timeOfWire (record { seconds = 2 ^ 48; nanos = 0 }) ≡ T
 unfolding timeOfWire timeOf inTime wire
 past-the-last-second = refl
 
-last-sent : wireOf (2 ^ 48 * 10 ^ 9 * 2 ^ 32 - 1) ≡ W.Value (record { seconds = 2 ^ 48 - 1; nanos = 999999999 }) 0xffff
+last-sent : wireOf (pos (2 ^ 48 * 10 ^ 9 * 2 ^ 32 - 1)) ≡ W.Value (record { seconds = 2 ^ 48 - 1; nanos = 999999999 }) 0xffff
 unfolding wireOf
 last-sent = refl
 
-not-sent : wireOf (2 ^ 48 * 10 ^ 9 * 2 ^ 32) ≡ W.Out
+not-sent : wireOf (pos (2 ^ 48 * 10 ^ 9 * 2 ^ 32)) ≡ W.Out
 unfolding wireOf
 not-sent = refl
 

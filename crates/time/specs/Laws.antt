@@ -15,25 +15,25 @@ use Rattle.time.specs.declared.Time.{Time}
 use Rattle.time.specs.declared.TimeAnswer.the-variants as T
 use Rattle.time.specs.declared.Duration.{Duration}
 use Rattle.time.specs.declared.DurationAnswer.the-variants as D
-use Rattle.time.specs.Units.{spelled, time, inTime, timeWords, timeOf, signed, span, inSpan, spelling, spanWords, spanOf, half, halfOf}
+use Rattle.time.specs.Units.{spelled, time, inTime, timeWords, timeOf, signed, duration, inDuration, spelling, durationWords, durationOf, half, halfOf}
 use Rattle.time.specs.Lemmas.Integers.{sub-ge, sub-lt, pos-minus}
 
 -- An answer that a test picks, a value or a refusal: what was answered tells the test.
 module _ {X A : Type 0} (value : X → A) (out : A) (same : (v w : X) → value v ≡ value w → v ≡ w) (differ : (v : X) → value v ≡ out → ⊥) where
-  pub given : (b : Bool) (v w : X) → cond b (value v) out ≡ value w → (b ≡ true) × (v ≡ w)
-  given true v w e = (refl, same v w e)
-  given false v w e = absurd (differ w (sym e))
+  pub was-value : (b : Bool) (v w : X) → cond b (value v) out ≡ value w → (b ≡ true) × (v ≡ w)
+  was-value true v w e = (refl, same v w e)
+  was-value false v w e = absurd (differ w (sym e))
 
-  pub refused : (b : Bool) (v : X) → cond b (value v) out ≡ out → b ≡ false
-  refused true v e = absurd (differ v e)
-  refused false v e = refl
+  pub was-refused : (b : Bool) (v : X) → cond b (value v) out ≡ out → b ≡ false
+  was-refused true v e = absurd (differ v e)
+  was-refused false v e = refl
 
 -- ---- times
 
 -- the range as one bound of ℕ
 pub in-time : (n : ℕ) → inTime (pos n) ≡ ltb n (2 ^ 127)
 unfolding inTime
-in-time n = simp (leb·zero n)
+in-time n = simp (leb·zero n) (sym (leb·suc-suc n (2 ^ 127 - 1)))
 
 pub not-below-zero : (n : ℕ) → inTime (negsuc n) ≡ false
 unfolding inTime
@@ -75,7 +75,7 @@ no-time t e =
 pub time-is : (z : ℤ) (t : Time) → timeOf z ≡ T.Value t → IsTime z t
 unfolding timeOf
 time-is z t e =
-    let g : (inTime z ≡ true) × (timeWords z ≡ t) = given T.Value T.Out same-time no-time (inTime z) (timeWords z) t e in
+    let g : (inTime z ≡ true) × (timeWords z ≡ t) = was-value T.Value T.Out same-time no-time (inTime z) (timeWords z) t e in
     record {
       value = ap time (sym (g .1)) ∙ time-words z (g .0);
       within = g .0;
@@ -86,7 +86,7 @@ time-is z t e =
 -- `Out` is answered only out of the range
 pub time-out-is : (z : ℤ) → timeOf z ≡ T.Out → inTime z ≡ false
 unfolding timeOf
-time-out-is z e = refused T.Value T.Out same-time no-time (inTime z) (timeWords z) e
+time-out-is z e = was-refused T.Value T.Out same-time no-time (inTime z) (timeWords z) e
 
 -- two words with no top bit, or with one
 pub below-half : (h l : ℕ) → h < 2 ^ 63 → l < 2 ^ 64 → spelled h l < 2 ^ 127
@@ -120,18 +120,18 @@ time-unique a b p q e = λ i. record { hi = his i; lo = los i }
 -- ---- durations
 
 -- the range as one bound of ℕ: `mag z` is n both for n and for -(n + 1)
-pub in-span : (z : ℤ) → inSpan z ≡ ltb (mag z) (2 ^ 127)
-unfolding inSpan
-in-span (pos n) = refl
-in-span (negsuc n) = and-true (leb n (2 ^ 127 - 1)) ∙ sym (leb·suc-suc n (2 ^ 127 - 1))
+pub in-duration : (z : ℤ) → inDuration z ≡ ltb (mag z) (2 ^ 127)
+unfolding inDuration
+in-duration (pos n) = sym (leb·suc-suc n (2 ^ 127 - 1))
+in-duration (negsuc n) = and-true (leb n (2 ^ 127 - 1)) ∙ sym (leb·suc-suc n (2 ^ 127 - 1))
 
-pub span-in : (z : ℤ) → inSpan z ≡ true → spanOf z ≡ D.Value (spanWords z)
-unfolding spanOf
-span-in z h = simp h
+pub duration-in : (z : ℤ) → inDuration z ≡ true → durationOf z ≡ D.Value (durationWords z)
+unfolding durationOf
+duration-in z h = simp h
 
-pub span-out : (z : ℤ) → inSpan z ≡ false → spanOf z ≡ D.Out
-unfolding spanOf
-span-out z h = simp h
+pub duration-out : (z : ℤ) → inDuration z ≡ false → durationOf z ≡ D.Out
+unfolding durationOf
+duration-out z h = simp h
 
 -- two's complement below half of the power, and from it on
 pub signed-low : (bits n : ℕ) → n < 2 ^ (bits - 1) → signed bits n ≡ pos n
@@ -145,50 +145,50 @@ signed-high bits n h = simp (le-ltb n (2 ^ (bits - 1)) h) (pos-minus n (2 ^ bits
 not-below : (a b : ℕ) → (a < b → ⊥) → b ≤ a
 not-below a b h = omega arith
 
-span-words : (z : ℤ) → inSpan z ≡ true → span (spanWords z) ≡ z
-unfolding span
-span-words (pos n) h =
-    ap (signed 128) (split n 64) ∙ signed-low 128 n (ltb-true n (2 ^ 127) (sym (in-span (pos n)) ∙ h))
-span-words (negsuc n) h =
-    let small : n < 2 ^ 127 = ltb-true n (2 ^ 127) (sym (in-span (negsuc n)) ∙ h) in
+duration-words : (z : ℤ) → inDuration z ≡ true → duration (durationWords z) ≡ z
+unfolding duration
+duration-words (pos n) h =
+    ap (signed 128) (split n 64) ∙ signed-low 128 n (ltb-true n (2 ^ 127) (sym (in-duration (pos n)) ∙ h))
+duration-words (negsuc n) h =
+    let small : n < 2 ^ 127 = ltb-true n (2 ^ 127) (sym (in-duration (negsuc n)) ∙ h) in
     ap (signed 128) (split (2 ^ 128 - suc n) 64)
     ∙ signed-high 128 (2 ^ 128 - suc n) (comp-ge {n = n} {H = 2 ^ 127} small)
     ∙ sub-lt (2 ^ 128 - suc n) (2 ^ 128) (pow-sub-lt 128 (suc-le-suc zero-le))
     ∙ ap negsuc (comp-comp {n = n} {N = 2 ^ 128} (lt-trans small (lit< tt)))
 
-spelling-lt : (z : ℤ) → inSpan z ≡ true → spelling z < 2 ^ 128
-spelling-lt (pos n) h = lt-trans (ltb-true n (2 ^ 127) (sym (in-span (pos n)) ∙ h)) (lit< tt)
+spelling-lt : (z : ℤ) → inDuration z ≡ true → spelling z < 2 ^ 128
+spelling-lt (pos n) h = lt-trans (ltb-true n (2 ^ 127) (sym (in-duration (pos n)) ∙ h)) (lit< tt)
 spelling-lt (negsuc n) h = pow-sub-lt 128 (suc-le-suc zero-le)
 
 -- what a duration that was answered is
-pub record IsSpan (z : ℤ) (d : Duration) : Type 0 where
-  pub value : span d ≡ z
-  pub within : inSpan z ≡ true
+pub record IsDuration (z : ℤ) (d : Duration) : Type 0 where
+  pub value : duration d ≡ z
+  pub within : inDuration z ≡ true
   pub hi : d .hi < 2 ^ 64
   pub lo : d .lo < 2 ^ 64
 
-same-span : (a b : Duration) → D.Value a ≡ D.Value b → a ≡ b
-same-span a b e = cc
+same-duration : (a b : Duration) → D.Value a ≡ D.Value b → a ≡ b
+same-duration a b e = cc
 
-no-span : (d : Duration) → D.Value d ≡ D.Out → ⊥
-no-span d e =
+no-duration : (d : Duration) → D.Value d ≡ D.Out → ⊥
+no-duration d e =
     let y : _≡_ {A = ℕ} 0 1 = cc in
     omega arith
 
-pub span-is : (z : ℤ) (d : Duration) → spanOf z ≡ D.Value d → IsSpan z d
-unfolding spanOf
-span-is z d e =
-    let g : (inSpan z ≡ true) × (spanWords z ≡ d) = given D.Value D.Out same-span no-span (inSpan z) (spanWords z) d e in
+pub duration-is : (z : ℤ) (d : Duration) → durationOf z ≡ D.Value d → IsDuration z d
+unfolding durationOf
+duration-is z d e =
+    let g : (inDuration z ≡ true) × (durationWords z ≡ d) = was-value D.Value D.Out same-duration no-duration (inDuration z) (durationWords z) d e in
     record {
-      value = ap span (sym (g .1)) ∙ span-words z (g .0);
+      value = ap duration (sym (g .1)) ∙ duration-words z (g .0);
       within = g .0;
       hi = subst (λ (u : Duration). u .hi < 2 ^ 64) (g .1) (shr-lt 64 64 (spelling-lt z (g .0)));
       lo = subst (λ (u : Duration). u .lo < 2 ^ 64) (g .1) (mod-lt _ (lit< tt));
     }
 
-pub span-out-is : (z : ℤ) → spanOf z ≡ D.Out → inSpan z ≡ false
-unfolding spanOf
-span-out-is z e = refused D.Value D.Out same-span no-span (inSpan z) (spanWords z) e
+pub duration-out-is : (z : ℤ) → durationOf z ≡ D.Out → inDuration z ≡ false
+unfolding durationOf
+duration-out-is z e = was-refused D.Value D.Out same-duration no-duration (inDuration z) (durationWords z) e
 
 -- any two words are a duration, which its units give back; so two durations of as many units are one
 module _ (d : Duration) (p : d .hi < 2 ^ 64) (q : d .lo < 2 ^ 64) where
@@ -199,28 +199,28 @@ module _ (d : Duration) (p : d .hi < 2 ^ 64) (q : d .lo < 2 ^ 64) where
   words-are m e =
       ap (λ (k : ℕ). record { hi = k / 2 ^ 64; lo = k % 2 ^ 64 }) e ∙ (λ i. record { hi = high (d .hi) 64 q i; lo = low (d .hi) 64 q i })
 
-  pub span-back : spanOf (span d) ≡ D.Value d
-  unfolding span
-  span-back = go (decLt n (2 ^ 127))
+  pub duration-back : durationOf (duration d) ≡ D.Value d
+  unfolding duration
+  duration-back = go (decLt n (2 ^ 127))
     where
-      go : Dec (n < 2 ^ 127) → spanOf (signed 128 n) ≡ D.Value d
+      go : Dec (n < 2 ^ 127) → durationOf (signed 128 n) ≡ D.Value d
       go (yes h) =
-          ap spanOf (signed-low 128 n h) ∙ span-in (pos n) (in-span (pos n) ∙ lt-ltb n (2 ^ 127) h) ∙ ap D.Value (words-are n refl)
+          ap durationOf (signed-low 128 n h) ∙ duration-in (pos n) (in-duration (pos n) ∙ lt-ltb n (2 ^ 127) h) ∙ ap D.Value (words-are n refl)
       go (no h) =
           let m : ℕ = 2 ^ 128 - suc n in
           let whole : n < 2 ^ 128 = below-whole (d .hi) (d .lo) p q in
           let large : 2 ^ 127 ≤ n = not-below n (2 ^ 127) h in
-          ap spanOf (signed-high 128 n large ∙ sub-lt n (2 ^ 128) whole)
-          ∙ span-in (negsuc m) (in-span (negsuc m) ∙ lt-ltb m (2 ^ 127) (comp-lt {n = n} {H = 2 ^ 127} large whole))
+          ap durationOf (signed-high 128 n large ∙ sub-lt n (2 ^ 128) whole)
+          ∙ duration-in (negsuc m) (in-duration (negsuc m) ∙ lt-ltb m (2 ^ 127) (comp-lt {n = n} {H = 2 ^ 127} large whole))
           ∙ ap D.Value (words-are (2 ^ 128 - suc m) (comp-comp {n = n} {N = 2 ^ 128} whole))
 
-  pub span-within : inSpan (span d) ≡ true
-  span-within = span-is (span d) d span-back .within
+  pub duration-within : inDuration (duration d) ≡ true
+  duration-within = duration-is (duration d) d duration-back .within
 
-pub span-unique : (a b : Duration) → a .hi < 2 ^ 64 → a .lo < 2 ^ 64 → b .hi < 2 ^ 64 → b .lo < 2 ^ 64 → span a ≡ span b → a ≡ b
-span-unique a b p q r s e =
-    let x : spanOf (span a) ≡ D.Value a = span-back a p q in
-    let y : spanOf (span b) ≡ D.Value b = span-back b r s in
+pub duration-unique : (a b : Duration) → a .hi < 2 ^ 64 → a .lo < 2 ^ 64 → b .hi < 2 ^ 64 → b .lo < 2 ^ 64 → duration a ≡ duration b → a ≡ b
+duration-unique a b p q r s e =
+    let x : durationOf (duration a) ≡ D.Value a = duration-back a p q in
+    let y : durationOf (duration b) ≡ D.Value b = duration-back b r s in
     cc
 
 -- ---- what never leaves its range: the difference of two times, and a half
@@ -228,9 +228,9 @@ span-unique a b p q r s e =
 under : (a b h : ℕ) → a < h → a - b < h
 under a b h p = omega arith
 
-pub times-apart : (a b : ℤ) → inTime a ≡ true → inTime b ≡ true → inSpan (a -ℤ b) ≡ true
+pub times-apart : (a b : ℤ) → inTime a ≡ true → inTime b ≡ true → inDuration (a -ℤ b) ≡ true
 times-apart (pos n) (pos m) p q =
-    ap inSpan (pos-minus n m) ∙ go (decLt n m)
+    ap inDuration (pos-minus n m) ∙ go (decLt n m)
   where
     n-in : n < 2 ^ 127
     n-in = ltb-true n (2 ^ 127) (sym (in-time n) ∙ p)
@@ -238,11 +238,11 @@ times-apart (pos n) (pos m) p q =
     m-in : m < 2 ^ 127
     m-in = ltb-true m (2 ^ 127) (sym (in-time m) ∙ q)
 
-    go : Dec (n < m) → inSpan (subℕ n m) ≡ true
+    go : Dec (n < m) → inDuration (subℕ n m) ≡ true
     go (yes h) =
-        ap inSpan (sub-lt n m h) ∙ in-span (negsuc (m - suc n)) ∙ lt-ltb (m - suc n) (2 ^ 127) (under m (suc n) (2 ^ 127) m-in)
+        ap inDuration (sub-lt n m h) ∙ in-duration (negsuc (m - suc n)) ∙ lt-ltb (m - suc n) (2 ^ 127) (under m (suc n) (2 ^ 127) m-in)
     go (no h) =
-        ap inSpan (sub-ge n m (not-below n m h)) ∙ in-span (pos (n - m)) ∙ lt-ltb (n - m) (2 ^ 127) (under n m (2 ^ 127) n-in)
+        ap inDuration (sub-ge n m (not-below n m h)) ∙ in-duration (pos (n - m)) ∙ lt-ltb (n - m) (2 ^ 127) (under n m (2 ^ 127) n-in)
 times-apart (pos n) (negsuc m) p q = absurd (false≢true (sym (not-below-zero m) ∙ q))
 times-apart (negsuc n) b p q = absurd (false≢true (sym (not-below-zero n) ∙ p))
 
@@ -255,21 +255,21 @@ unfolding half
 half-mag (pos n) = omega arith
 half-mag (negsuc n) = neg-mag (suc n / 2) n (omega arith)
 
-pub half-within : (z : ℤ) → inSpan z ≡ true → inSpan (half z) ≡ true
+pub half-within : (z : ℤ) → inDuration z ≡ true → inDuration (half z) ≡ true
 half-within z h =
-    in-span (half z)
-    ∙ lt-ltb (mag (half z)) (2 ^ 127) (lt-of-le-of-lt (half-mag z) (ltb-true (mag z) (2 ^ 127) (sym (in-span z) ∙ h)))
+    in-duration (half z)
+    ∙ lt-ltb (mag (half z)) (2 ^ 127) (lt-of-le-of-lt (half-mag z) (ltb-true (mag z) (2 ^ 127) (sym (in-duration z) ∙ h)))
 
 -- so the half of what a sum answered is the half of its value
-pub half-is : (z : ℤ) (d : Duration) → spanOf z ≡ D.Value d → spanOf (half z) ≡ D.Value (halfOf d)
+pub half-is : (z : ℤ) (d : Duration) → durationOf z ≡ D.Value d → durationOf (half z) ≡ D.Value (halfOf d)
 unfolding halfOf
 half-is z d e =
-    let a : IsSpan z d = span-is z d e in
-    span-in (half z) (half-within z (a .within)) ∙ ap (λ (y : ℤ). D.Value (spanWords (half y))) (sym (a .value))
+    let a : IsDuration z d = duration-is z d e in
+    duration-in (half z) (half-within z (a .within)) ∙ ap (λ (y : ℤ). D.Value (durationWords (half y))) (sym (a .value))
 
 -- and a duration is the half of another exactly where its units are
-pub half-unique : (r d : Duration) → r .hi < 2 ^ 64 → r .lo < 2 ^ 64 → d .hi < 2 ^ 64 → d .lo < 2 ^ 64 → span r ≡ half (span d) → r ≡ halfOf d
+pub half-unique : (r d : Duration) → r .hi < 2 ^ 64 → r .lo < 2 ^ 64 → d .hi < 2 ^ 64 → d .lo < 2 ^ 64 → duration r ≡ half (duration d) → r ≡ halfOf d
 half-unique r d p q h l e =
-    let x : spanOf (span r) ≡ D.Value r = span-back r p q in
-    let y : spanOf (half (span d)) ≡ D.Value (halfOf d) = half-is (span d) d (span-back d h l) in
+    let x : durationOf (duration r) ≡ D.Value r = duration-back r p q in
+    let y : durationOf (half (duration d)) ≡ D.Value (halfOf d) = half-is (duration d) d (duration-back d h l) in
     cc

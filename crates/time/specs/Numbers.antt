@@ -10,7 +10,7 @@ use Rattle.time.specs.declared.WireAnswer.{WireAnswer}
 use Rattle.time.specs.declared.WireAnswer.the-variants as W
 use Rattle.time.specs.declared.timer.TimerAnswer.{TimerAnswer}
 use Rattle.time.specs.declared.timer.TimerAnswer.the-variants as R
-use Rattle.time.specs.Units.{time, span}
+use Rattle.time.specs.Units.{time, duration}
 
 pub record Told : Type 0 where
   pub number : ℕ
@@ -27,9 +27,9 @@ abbrev pub toldTime : TimeAnswer → Told
 toldTime (T.Value t) = taken (time t ∷ [])
 toldTime T.Out = refusal 7
 
-abbrev pub toldSpan : DurationAnswer → Told
-toldSpan (D.Value d) = taken (span d ∷ [])
-toldSpan D.Out = refusal 7
+abbrev pub toldDuration : DurationAnswer → Told
+toldDuration (D.Value d) = taken (duration d ∷ [])
+toldDuration D.Out = refusal 7
 
 -- seconds, nanoseconds, and 2 ^ -16 nanoseconds
 abbrev pub toldWire : WireAnswer → Told

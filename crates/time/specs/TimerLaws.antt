@@ -10,7 +10,7 @@ use lib.Pow.{pow-add, pow-pos}
 use lib.IntN.{ℤ, pos, negsuc, natAbs, _-ℤ_}
 use borrow.Author.Tests.{leb-true}
 use Rattle.time.specs.declared.timer.TimerAnswer.the-variants.{Value, Interval, Draw}
-use Rattle.time.specs.Timers.{interval, inInterval, inDraw, syncTimer, nearest, delayTimer, syncTimerOf, delayTimerOf}
+use Rattle.time.specs.Timers.{interval, inInterval, inDraw, syncTimer, toNearest, delayTimer, syncTimerOf, delayTimerOf}
 use Rattle.time.specs.Laws.{signed-low, signed-high}
 use Rattle.time.specs.Lemmas.Integers.{sub-ge, sub-lt, pos-minus}
 
@@ -107,15 +107,15 @@ quotient-near a d q l h e k whole = record { above = over (decLt 0 l) (decLt 0 q
         let zero-q : q ≡ 0 = omega arith in
         absurd (omega (arith, ap (λ (x : ℕ). x * (2 * d)) zero-q))
 
-pub nearest-near : (a d : ℕ) → 0 < d → ((m : ℕ) → 2 * a ≡ (2 * m + 1) * d → ⊥) → Near a d (nearest a d)
-nearest-near a d h whole =
-    quotient-near a d (nearest a d) ((2 * a + d) % (2 * d)) h (div-add-mod' (2 * a + d) (2 * d)) (mod-lt (2 * a + d) (omega arith)) whole
+pub to-nearest-near : (a d : ℕ) → 0 < d → ((m : ℕ) → 2 * a ≡ (2 * m + 1) * d → ⊥) → Near a d (toNearest a d)
+to-nearest-near a d h whole =
+    quotient-near a d (toNearest a d) ((2 * a + d) % (2 * d)) h (div-add-mod' (2 * a + d) (2 * d)) (mod-lt (2 * a + d) (omega arith)) whole
 
 -- and the delay timer never is one
 pub delay-near : (n : ℤ) (k : ℕ) → inInterval n ≡ true → Near ((2 * k + 1) * 10 ^ 9) (2 ^ natAbs (pos 52 -ℤ n)) (delayTimer n k)
 unfolding delayTimer
 delay-near n k h =
-    nearest-near ((2 * k + 1) * 10 ^ 9) (2 ^ natAbs (pos 52 -ℤ n)) (pow-pos (natAbs (pos 52 -ℤ n))) (λ m. no-half n k m h)
+    to-nearest-near ((2 * k + 1) * 10 ^ 9) (2 ^ natAbs (pos 52 -ℤ n)) (pow-pos (natAbs (pos 52 -ℤ n))) (λ m. no-half n k m h)
 
 -- ---- what each answer means
 

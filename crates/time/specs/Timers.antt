@@ -1,38 +1,37 @@
 -- Document 01, 'Units', its last part: the timers, in nanoseconds. A log interval is a byte in two's complement, as on the wire.
-use Prim.Native.Nat.{ℕ, suc, _+_, _*_, _/_, _^_}
-use mathlib.Core.Bool.{Bool, cond, _&&_}
-use lib.Dec.{ltb}
+use Prim.Native.Nat.{ℕ, suc, _+_, _-_, _*_, _/_, _^_}
+use mathlib.Core.Bool.{Bool, cond}
+use lib.Dec.{leb}
 use lib.IntN.{ℤ, pos, negsuc, negℤ, natAbs, _-ℤ_}
-use lib.Signed.{leZ}
 use Rattle.time.specs.declared.timer.TimerAnswer.{TimerAnswer}
 use Rattle.time.specs.declared.timer.TimerAnswer.the-variants.{Value, Interval, Draw}
-use Rattle.time.specs.Units.{signed}
+use Rattle.time.specs.Units.{signed, within}
 
 unfoldable pub interval : ℕ → ℤ
 interval byte = signed 8 byte
 
 -- log intervals run from -9 to 16
 unfoldable pub inInterval : ℤ → Bool
-inInterval n = leZ (negℤ (pos 9)) n && leZ n (pos 16)
+inInterval n = within (negℤ (pos 9)) (pos 16) n
 
 -- draws run from 0 to 2 ^ 52 - 1
 unfoldable pub inDraw : ℕ → Bool
-inDraw k = ltb k (2 ^ 52)
+inDraw k = leb k (2 ^ 52 - 1)
 
--- the sync timer: 2 ^ n seconds. (`Laws`, `sync-exact`: the division leaves nothing over.)
+-- the sync timer: 2 ^ n seconds. (`TimerLaws`, `sync-exact`: the division leaves nothing over.)
 unfoldable pub syncTimer : ℤ → ℕ
 syncTimer (pos n) = 2 ^ n * 10 ^ 9
 syncTimer (negsuc m) = 10 ^ 9 / 2 ^ suc m
 
--- the whole number nearest to a / d. (`Laws`, `no-half`: no draw asks which way a half goes.)
-abbrev pub nearest : ℕ → ℕ → ℕ
-nearest a d = (2 * a + d) / (2 * d)
+-- the whole number nearest to a / d. (`TimerLaws`, `no-half`: no draw asks which way a half goes.)
+abbrev pub toNearest : ℕ → ℕ → ℕ
+toNearest a d = (2 * a + d) / (2 * d)
 
 -- the delay timer: the draw k stands for (2 k + 1) / 2 ^ 53, and the timer is (2 k + 1) × 10 ^ 9 × 2 ^ (n - 52), to the nearest
 unfoldable pub delayTimer : ℤ → ℕ → ℕ
-delayTimer n k = nearest ((2 * k + 1) * 10 ^ 9) (2 ^ natAbs (pos 52 -ℤ n))
+delayTimer n k = toNearest ((2 * k + 1) * 10 ^ 9) (2 ^ natAbs (pos 52 -ℤ n))
 
--- what the two functions answer: the interval is looked at first
+-- what the two functions answer, by the interval's byte: the interval is looked at first
 unfoldable pub syncTimerOf : ℕ → TimerAnswer
 syncTimerOf byte = cond (inInterval (interval byte)) (Value (syncTimer (interval byte))) Interval
 

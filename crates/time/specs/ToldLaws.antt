@@ -10,15 +10,15 @@ use Rattle.time.specs.declared.DurationAnswer.the-variants as D
 use Rattle.time.specs.declared.WireAnswer.the-variants as W
 use Rattle.time.specs.declared.timer.TimerAnswer.{TimerAnswer}
 use Rattle.time.specs.declared.timer.TimerAnswer.the-variants as R
-use Rattle.time.specs.Units.{inTime, timeWords, timeOf, inSpan, spanWords, spanOf, wireOf}
+use Rattle.time.specs.Units.{inTime, timeWords, timeOf, inDuration, durationWords, durationOf, wireOf}
 use Rattle.time.specs.Timers.{interval, inInterval, inDraw, syncTimer, syncTimerOf, delayTimer, delayTimerOf}
-use Rattle.time.specs.Numbers.{Told, taken, refusal, toldTime, toldSpan, toldWire, toldTimer}
-use Rattle.time.specs.Laws.{time-in, time-is, span-in, span-is}
+use Rattle.time.specs.Numbers.{Told, taken, refusal, toldTime, toldDuration, toldWire, toldTimer}
+use Rattle.time.specs.Laws.{time-in, time-is, duration-in, duration-is}
 
 -- a function of what a test picks
-through : {A B : Type 0} (f : A → B) (b : Bool) (x y : A) → f (cond b x y) ≡ cond b (f x) (f y)
-through f true x y = refl
-through f false x y = refl
+of-cond : {A B : Type 0} (f : A → B) (b : Bool) (x y : A) → f (cond b x y) ≡ cond b (f x) (f y)
+of-cond f true x y = refl
+of-cond f false x y = refl
 
 -- what is picked where the test is true may use that it is
 where-true : {A : Type 0} (b : Bool) (x x′ y : A) → (b ≡ true → x ≡ x′) → cond b x y ≡ cond b x′ y
@@ -28,25 +28,25 @@ where-true false x x′ y e = refl
 pub told-time : (z : ℤ) → toldTime (timeOf z) ≡ cond (inTime z) (taken (z ∷ [])) (refusal 7)
 unfolding timeOf
 told-time z =
-    through toldTime (inTime z) (T.Value (timeWords z)) T.Out
+    of-cond toldTime (inTime z) (T.Value (timeWords z)) T.Out
     ∙ where-true (inTime z) (toldTime (T.Value (timeWords z))) (taken (z ∷ [])) (refusal 7) (λ h. ap (λ (y : ℤ). taken (y ∷ [])) (time-is z (timeWords z) (time-in z h) .value))
 
-pub told-span : (z : ℤ) → toldSpan (spanOf z) ≡ cond (inSpan z) (taken (z ∷ [])) (refusal 7)
-unfolding spanOf
-told-span z =
-    through toldSpan (inSpan z) (D.Value (spanWords z)) D.Out
-    ∙ where-true (inSpan z) (toldSpan (D.Value (spanWords z))) (taken (z ∷ [])) (refusal 7) (λ h. ap (λ (y : ℤ). taken (y ∷ [])) (span-is z (spanWords z) (span-in z h) .value))
+pub told-duration : (z : ℤ) → toldDuration (durationOf z) ≡ cond (inDuration z) (taken (z ∷ [])) (refusal 7)
+unfolding durationOf
+told-duration z =
+    of-cond toldDuration (inDuration z) (D.Value (durationWords z)) D.Out
+    ∙ where-true (inDuration z) (toldDuration (D.Value (durationWords z))) (taken (z ∷ [])) (refusal 7) (λ h. ap (λ (y : ℤ). taken (y ∷ [])) (duration-is z (durationWords z) (duration-in z h) .value))
 
-pub told-wire : (n : ℕ) → toldWire (wireOf n) ≡ cond (ltb (n / 2 ^ 32 / 10 ^ 9) (2 ^ 48)) (taken (pos (n / 2 ^ 32 / 10 ^ 9) ∷ pos (n / 2 ^ 32 % 10 ^ 9) ∷ pos (n % 2 ^ 32 / 2 ^ 16) ∷ [])) (refusal 7)
+pub told-wire : (n : ℕ) → toldWire (wireOf (pos n)) ≡ cond (ltb (n / 2 ^ 32 / 10 ^ 9) (2 ^ 48)) (taken (pos (n / 2 ^ 32 / 10 ^ 9) ∷ pos (n / 2 ^ 32 % 10 ^ 9) ∷ pos (n % 2 ^ 32 / 2 ^ 16) ∷ [])) (refusal 7)
 unfolding wireOf
 told-wire n =
-    through toldWire (ltb (n / 2 ^ 32 / 10 ^ 9) (2 ^ 48))
+    of-cond toldWire (ltb (n / 2 ^ 32 / 10 ^ 9) (2 ^ 48))
     (W.Value (record { seconds = n / 2 ^ 32 / 10 ^ 9; nanos = n / 2 ^ 32 % 10 ^ 9 }) (n % 2 ^ 32 / 2 ^ 16))
     W.Out
 
 pub told-sync : (byte : ℕ) → toldTimer (syncTimerOf byte) ≡ cond (inInterval (interval byte)) (taken (pos (syncTimer (interval byte)) ∷ [])) (refusal 2)
 unfolding syncTimerOf
-told-sync byte = through toldTimer (inInterval (interval byte)) (R.Value (syncTimer (interval byte))) R.Interval
+told-sync byte = of-cond toldTimer (inInterval (interval byte)) (R.Value (syncTimer (interval byte))) R.Interval
 
 module _ (byte k : ℕ) where
   abbrev drawn : TimerAnswer
@@ -55,5 +55,5 @@ module _ (byte k : ℕ) where
   pub told-delay : toldTimer (delayTimerOf byte k) ≡ cond (inInterval (interval byte)) (cond (inDraw k) (taken (pos (delayTimer (interval byte) k) ∷ [])) (refusal 3)) (refusal 2)
   unfolding delayTimerOf
   told-delay =
-      through toldTimer (inInterval (interval byte)) drawn R.Interval
-      ∙ ap (λ (x : Told). cond (inInterval (interval byte)) x (refusal 2)) (through toldTimer (inDraw k) (R.Value (delayTimer (interval byte) k)) R.Draw)
+      of-cond toldTimer (inInterval (interval byte)) drawn R.Interval
+      ∙ ap (λ (x : Told). cond (inInterval (interval byte)) x (refusal 2)) (of-cond toldTimer (inDraw k) (R.Value (delayTimer (interval byte) k)) R.Draw)

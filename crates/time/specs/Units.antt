@@ -4,7 +4,7 @@ use Prim.Native.Nat.{ℕ, suc, _+_, _-_, _*_, _/_, _%_, _^_}
 use mathlib.Core.Bool.{Bool, cond, _&&_}
 use lib.Dec.{ltb}
 use lib.IntN.{ℤ, pos, negsuc, negℤ, natAbs, _-ℤ_, _*ℤ_}
-use lib.Signed.{leZ, ltZ, quotZ}
+use lib.Signed.{leZ, quotZ}
 use Rattle.time.specs.declared.Time.{Time}
 use Rattle.time.specs.declared.Duration.{Duration}
 use Rattle.time.specs.declared.WireTimestamp.{WireTimestamp}
@@ -15,20 +15,21 @@ use Rattle.time.specs.declared.DurationAnswer.the-variants as D
 use Rattle.time.specs.declared.WireAnswer.{WireAnswer}
 use Rattle.time.specs.declared.WireAnswer.the-variants as W
 
+-- from one number to another, both of them taken
+abbrev pub within : ℤ → ℤ → ℤ → Bool
+within first last z = leZ first z && leZ z last
+
 -- ---- a time: 0 to 2 ^ 127 - 1 units
 
 -- the number that two words spell, the high one first
 abbrev pub spelled : ℕ → ℕ → ℕ
 spelled hi lo = hi * 2 ^ 64 + lo
 
-abbrev pub units : Time → ℕ
-units t = spelled (t .hi) (t .lo)
-
 unfoldable pub time : Time → ℤ
-time t = pos (units t)
+time t = pos (spelled (t .hi) (t .lo))
 
 unfoldable pub inTime : ℤ → Bool
-inTime z = leZ (pos 0) z && ltZ z (pos (2 ^ 127))
+inTime z = within (pos 0) (pos (2 ^ 127 - 1)) z
 
 -- the time of so many units, or `Out` where no time has as many
 abbrev pub timeWords : ℤ → Time
@@ -43,11 +44,11 @@ timeOf z = cond (inTime z) (T.Value (timeWords z)) T.Out
 unfoldable pub signed : ℕ → ℕ → ℤ
 signed bits n = cond (ltb n (2 ^ (bits - 1))) (pos n) (pos n -ℤ pos (2 ^ bits))
 
-unfoldable pub span : Duration → ℤ
-span d = signed 128 (spelled (d .hi) (d .lo))
+unfoldable pub duration : Duration → ℤ
+duration d = signed 128 (spelled (d .hi) (d .lo))
 
-unfoldable pub inSpan : ℤ → Bool
-inSpan z = leZ (negℤ (pos (2 ^ 127))) z && ltZ z (pos (2 ^ 127))
+unfoldable pub inDuration : ℤ → Bool
+inDuration z = within (negℤ (pos (2 ^ 127))) (pos (2 ^ 127 - 1)) z
 
 -- what the words of a number spell: itself, or 2 ^ 128 more where it is negative
 abbrev pub spelling : ℤ → ℕ
@@ -55,11 +56,11 @@ spelling (pos n) = n
 spelling (negsuc n) = 2 ^ 128 - suc n
 
 -- the duration of so many units, or `Out` where no duration has as many
-abbrev pub spanWords : ℤ → Duration
-spanWords z = record { hi = spelling z / 2 ^ 64; lo = spelling z % 2 ^ 64 }
+abbrev pub durationWords : ℤ → Duration
+durationWords z = record { hi = spelling z / 2 ^ 64; lo = spelling z % 2 ^ 64 }
 
-unfoldable pub spanOf : ℤ → DurationAnswer
-spanOf z = cond (inSpan z) (D.Value (spanWords z)) D.Out
+unfoldable pub durationOf : ℤ → DurationAnswer
+durationOf z = cond (inDuration z) (D.Value (durationWords z)) D.Out
 
 -- ---- a wire timestamp: 48-bit seconds, 32-bit nanoseconds; 10 ^ 9 nanoseconds or more count as the number they are
 
@@ -70,14 +71,15 @@ wire w = pos ((w .seconds * 10 ^ 9 + w .nanos) * 2 ^ 32)
 unfoldable pub timeOfWire : WireTimestamp → TimeAnswer
 timeOfWire w = cond (ltb (w .seconds) (2 ^ 48)) (timeOf (wire w)) T.Out
 
--- the timestamp of so many units, whole nanoseconds, and the fraction of one cut to 16 bits ('Sent messages'); or `Out` where the seconds have more than 48 bits
-unfoldable pub wireOf : ℕ → WireAnswer
-wireOf n =
+-- the timestamp of so many units, whole nanoseconds, with the fraction of one cut to 16 bits ('Sent messages'); or `Out` where the seconds have more than 48 bits
+unfoldable pub wireOf : ℤ → WireAnswer
+wireOf (pos n) =
     let nanoseconds : ℕ = n / 2 ^ 32 in
     cond
     (ltb (nanoseconds / 10 ^ 9) (2 ^ 48))
     (W.Value (record { seconds = nanoseconds / 10 ^ 9; nanos = nanoseconds % 10 ^ 9 }) (n % 2 ^ 32 / 2 ^ 16))
     W.Out
+wireOf (negsuc n) = W.Out
 
 -- ---- a correction field c: signed, 64 bits, 2 ^ -16 ns, so c × 65,536 units
 
@@ -91,4 +93,4 @@ half z = quotZ z (pos 2)
 
 -- half of a duration is always a duration (`Laws`, `half-is`)
 unfoldable pub halfOf : Duration → Duration
-halfOf d = spanWords (half (span d))
+halfOf d = durationWords (half (duration d))

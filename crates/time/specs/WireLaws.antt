@@ -5,12 +5,13 @@ use Prim.Native.Nat.{ℕ, _+_, _*_, _/_, _%_, _^_, _<_, _≤_}
 use native.Mathlib.Omega.{arith}
 use native.Mathlib.Nat.{mod-lt, lt-trans}
 use lib.Dec.{ltb, lit<}
+use lib.IntN.{pos}
 use borrow.Author.Tests.{lt-ltb, le-ltb, ltb-true}
 use Rattle.time.specs.declared.WireTimestamp.{WireTimestamp}
 use Rattle.time.specs.declared.TimeAnswer.the-variants as T
 use Rattle.time.specs.declared.WireAnswer.the-variants as W
 use Rattle.time.specs.Units.{inTime, timeOf, wire, timeOfWire, wireOf}
-use Rattle.time.specs.Laws.{given, in-time}
+use Rattle.time.specs.Laws.{was-value, in-time}
 
 -- ---- read
 
@@ -60,24 +61,25 @@ module _ (n : ℕ) where
   whole : (n / 2 ^ 32 / 10 ^ 9 * 10 ^ 9 + n / 2 ^ 32 % 10 ^ 9) * 2 ^ 32 + n % 2 ^ 32 / 2 ^ 16 * 2 ^ 16 ≡ n / 2 ^ 16 * 2 ^ 16
   whole = omega arith
 
-  pub wire-is : (w : WireTimestamp) (f : ℕ) → wireOf n ≡ W.Value w f → Sent n w f
+  pub wire-is : (w : WireTimestamp) (f : ℕ) → wireOf (pos n) ≡ W.Value w f → Sent n w f
   unfolding wireOf
   wire-is w f e =
-      let g : (short ≡ true) × (sent ≡ (w, f)) = given (λ (x : WireTimestamp × ℕ). W.Value (x .0) (x .1)) W.Out same-sent not-sent short sent (w, f) e in
+      let g : (short ≡ true) × (sent ≡ (w, f)) = was-value (λ (x : WireTimestamp × ℕ). W.Value (x .0) (x .1)) W.Out same-sent not-sent short sent (w, f) e in
       subst (λ (x : WireTimestamp × ℕ). Sent n (x .0) (x .1)) (g .1)
       record { seconds = ltb-true _ _ (g .0); nanos = mod-lt _ (lit< tt); fraction = omega arith; cut = whole }
 
   -- a time is refused from 2 ^ 48 seconds on, and only there
-  pub wire-sent : n < 2 ^ 48 * 10 ^ 9 * 2 ^ 32 → wireOf n ≡ W.Value (sent .0) (sent .1)
+  pub wire-sent : n < 2 ^ 48 * 10 ^ 9 * 2 ^ 32 → wireOf (pos n) ≡ W.Value (sent .0) (sent .1)
   unfolding wireOf
   wire-sent h = simp (lt-ltb (n / 2 ^ 32 / 10 ^ 9) (2 ^ 48) (omega arith))
 
-  pub wire-out : 2 ^ 48 * 10 ^ 9 * 2 ^ 32 ≤ n → wireOf n ≡ W.Out
+  pub wire-out : 2 ^ 48 * 10 ^ 9 * 2 ^ 32 ≤ n → wireOf (pos n) ≡ W.Out
   unfolding wireOf
   wire-out h = simp (le-ltb (n / 2 ^ 32 / 10 ^ 9) (2 ^ 48) (omega arith))
 
 -- what was sent of a whole number of nanoseconds is what was read
-pub wire-back : (w : WireTimestamp) → w .seconds < 2 ^ 48 → w .nanos < 10 ^ 9 → wireOf ((w .seconds * 10 ^ 9 + w .nanos) * 2 ^ 32) ≡ W.Value w 0
+pub wire-back : (w : WireTimestamp) → w .seconds < 2 ^ 48 → w .nanos < 10 ^ 9 → wireOf (wire w) ≡ W.Value w 0
+unfolding wire
 wire-back w p q =
     wire-sent ((w .seconds * 10 ^ 9 + w .nanos) * 2 ^ 32) (omega arith)
     ∙ (λ i. W.Value (record { seconds = seconds-are i; nanos = nanos-are i }) (rest-is i))

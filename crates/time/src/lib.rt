@@ -4,7 +4,7 @@
 ghost use mathlib.Core.Path.{_≡_};
 ghost use Prim.Native.Nat.{_+_, _*_, _/_, _^_, _≤_};
 ghost use lib.IntN.{pos, subℕ, _+ℤ_, _-ℤ_};
-ghost use Rattle.time.specs.Units.{spelled, units, time, inTime, timeOf, span, spanOf, timeOfWire, wireOf, correction, halfOf};
+ghost use Rattle.time.specs.Units.{spelled, time, inTime, timeOf, duration, durationOf, timeOfWire, wireOf, correction, halfOf};
 
 pub mod timer;
 mod words;
@@ -67,7 +67,7 @@ fn checked_time(w: Wide, up: u64, down: u64) -> TimeAnswer
 // The duration of w's words less what was borrowed above them.
 fn checked_duration(w: Wide) -> DurationAnswer
     requires { ⌜ w .carry ≤ 1 ⌝ }
-    ensures { λ r. ⌜ r ≡ spanOf (subℕ (spelled (w .hi) (w .lo)) (w .carry * 2 ^ 128)) ⌝ }
+    ensures { λ r. ⌜ r ≡ durationOf (subℕ (spelled (w .hi) (w .lo)) (w .carry * 2 ^ 128)) ⌝ }
 {
     let hi = w.hi;
     let lo = w.lo;
@@ -81,7 +81,7 @@ fn checked_duration(w: Wide) -> DurationAnswer
 
 // A correction field in units: its 64 bits moved up by 16, with the sign's bits above them.
 fn scaled(c: u64) -> Duration
-    ensures { λ r. ⌜ span r ≡ correction c ⌝ }
+    ensures { λ r. ⌜ duration r ≡ correction c ⌝ }
 {
     let lo = c % 0x1_0000_0000_0000 * 0x1_0000;
     let hi = c / 0x1_0000_0000_0000;
@@ -143,7 +143,7 @@ impl Time {
 
     // The timestamp of this time and the fraction of a nanosecond behind it, cut to 16 bits.
     pub fn to_wire(self) -> WireAnswer
-        ensures { λ r. ⌜ r ≡ wireOf (units self) ⌝ }
+        ensures { λ r. ⌜ r ≡ wireOf (time self) ⌝ }
     {
         let hi = self.hi;
         let lo = self.lo;
@@ -184,7 +184,7 @@ impl Time {
 
     // How far this time lies behind t.
     pub fn minus(self, t: Time) -> DurationAnswer
-        ensures { λ r. ⌜ r ≡ spanOf (time self -ℤ time t) ⌝ }
+        ensures { λ r. ⌜ r ≡ durationOf (time self -ℤ time t) ⌝ }
     {
         checked_duration(words::sub(self.hi, self.lo, t.hi, t.lo))
     }
@@ -192,7 +192,7 @@ impl Time {
 
 impl Duration {
     pub fn minus(self, d: Duration) -> DurationAnswer
-        ensures { λ r. ⌜ r ≡ spanOf (span self -ℤ span d) ⌝ }
+        ensures { λ r. ⌜ r ≡ durationOf (duration self -ℤ duration d) ⌝ }
     {
         let a = turned(self.hi);
         let b = turned(d.hi);

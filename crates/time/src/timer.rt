@@ -4,7 +4,7 @@ ghost use mathlib.Core.Path.{_≡_};
 ghost use Prim.Native.Nat.{_+_, _*_, _^_, _≤_, _<_};
 ghost use mathlib.Core.Bool.{true};
 ghost use lib.IntN.{pos, natAbs, _-ℤ_};
-ghost use Rattle.time.specs.Timers.{interval, inInterval, nearest, syncTimerOf, delayTimerOf};
+ghost use Rattle.time.specs.Timers.{interval, inInterval, toNearest, syncTimerOf, delayTimerOf};
 
 // A timer, or what is out of its limits: the log interval, or else the draw.
 pub enum TimerAnswer {
@@ -49,7 +49,7 @@ pub fn sync_timer(n: u8) -> TimerAnswer
 // The draw k at 2^(n - 52) seconds, to the nearest nanosecond, where shift is 17 - n.
 fn drawn(k: u64, shift: u64) -> u64
     requires { ⌜ (k < 2 ^ 52) × (1 ≤ shift) × (shift ≤ 26) ⌝ }
-    ensures { λ r. ⌜ r ≡ nearest ((2 * k + 1) * 10 ^ 9) (2 ^ (shift + 35)) ⌝ }
+    ensures { λ r. ⌜ r ≡ toNearest ((2 * k + 1) * 10 ^ 9) (2 ^ (shift + 35)) ⌝ }
 {
     let odd = 2 * k + 1;
     // odd * 5^9 / 2^26: the product itself has no place in 64 bits

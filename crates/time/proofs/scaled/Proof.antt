@@ -3,7 +3,7 @@ use Prim.Native.Nat.{ℕ, _+_, _*_, _/_, _%_, _^_}
 use mathlib.Core.Path.{_≡_, refl, sym, ap, _∙_}
 use native.Mathlib.Omega.{arith}
 use lib.IntN.{ℤ, pos, _*ℤ_}
-use Rattle.time.specs.Units.{spelled, span, correction}
+use Rattle.time.specs.Units.{spelled, duration, correction}
 use Rattle.time.specs.Laws.{signed-low, signed-high, below-half, from-half}
 use Rattle.time.specs.Lemmas.Integers.{sub-eq, product-is}
 use Rattle.time.proofs.Digits.{extended-digits}
@@ -22,14 +22,14 @@ moved : (x : ℕ) → spelled (x / 2 ^ 48) (x % 2 ^ 48 * 65536) ≡ x * 65536
 moved x = omega arith
 
 returns : tie.Need-returns
-unfolding span correction
+unfolding duration correction
 returns c =
     let x = c .before .args .c in
     signed-low 128 _ (below-half (x / 2 ^ 48) (x % 2 ^ 48 * 65536) (omega arith) (omega arith))
     ∙ ap pos (moved x) ∙ sym (ap (λ (z : ℤ). z *ℤ pos 65536) (signed-low 64 x (c .if1 .taken)))
 
 returns-2 : tie.Need-returns-2
-unfolding span correction
+unfolding duration correction
 returns-2 c =
     let x = c .before .args .c in
     signed-high 128 _ (from-half (x / 2 ^ 48 + 0xffff_ffff_ffff_0000) (x % 2 ^ 48 * 65536) (omega arith))

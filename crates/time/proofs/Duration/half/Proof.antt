@@ -8,10 +8,10 @@ use native.Mathlib.Decide.{decLt}
 use lib.Dec.{lit<}
 use lib.IntN.{ℤ, pos, subℕ}
 use lib.Signed.{quotZ}
-use Rattle.time.specs.Units.{spelled, span, half}
+use Rattle.time.specs.Units.{spelled, duration, half}
 use Rattle.time.specs.Laws.{below-half, from-half, below-whole, half-unique}
 use Rattle.time.specs.Lemmas.Integers.{sub-eq, half-up, half-down}
-use Rattle.time.proofs.Checked.{span-sub}
+use Rattle.time.proofs.Checked.{duration-sub}
 use Rattle.time.proofs.Digits.{no-top, one-top, halved-digits}
 use borrow.Author.Needs.{needs}
 use Rattle.time.proofs.Duration.half.Statement.{statement}
@@ -85,13 +85,13 @@ module _ (h l rh rl k : ℕ) (hh : h < 2 ^ 64) (hl : l < 2 ^ 64) (hrh : rh < 2 ^
           let q : k ≡ 0 = carry-none N F R (l % 2) k (2 ^ 127) (2 ^ 128) refl (lit< tt) (below-whole h l hh hl) (omega arith) k₁ (floored h l) e (from-half rh rl (omega arith)) in
           omega (arith, one-top rh (omega arith) hrh)
 
-  down : R + k * 2 ^ 128 ≡ F + 2 ^ 127 + l % 2 → span (record { hi = rh; lo = rl }) ≡ half (span (record { hi = h; lo = l }))
+  down : R + k * 2 ^ 128 ≡ F + 2 ^ 127 + l % 2 → duration (record { hi = rh; lo = rl }) ≡ half (duration (record { hi = h; lo = l }))
   unfolding half
   down e =
-      span-sub rh rl hrh hrl
+      duration-sub rh rl hrh hrl
       ∙ sub-eq R (rh / 2 ^ 63 * 2 ^ 128) (R + k * 2 ^ 128) (2 ^ 128) (one-power R k (rh / 2 ^ 63) (2 ^ 128) (top-bit e))
       ∙ sym
-      (ap (λ (z : ℤ). quotZ z (pos 2)) (span-sub h l hh hl ∙ ap (λ (x : ℕ). subℕ N (x * 2 ^ 128)) (one-top h large hh))
+      (ap (λ (z : ℤ). quotZ z (pos 2)) (duration-sub h l hh hl ∙ ap (λ (x : ℕ). subℕ N (x * 2 ^ 128)) (one-top h large hh))
       ∙ half-down N (2 ^ 128) (R + k * 2 ^ 128) (2 ^ 128) (l % 2) (below-whole h l hh hl) (omega arith)
       (towards N F R (l % 2) k (2 ^ 127) (2 ^ 128) refl (floored h l) e))
 
@@ -100,15 +100,15 @@ regroup : (A P B f o x : ℕ) → x ≡ ((A + P) * B + f) + (0 * B + o) → x �
 regroup A P B f o x e = omega arith
 
 -- above zero
-up : (h l : ℕ) → h < 2 ^ 63 → l < 2 ^ 64 → span (record { hi = h / 2; lo = l / 2 + h % 2 * 2 ^ 63 }) ≡ half (span (record { hi = h; lo = l }))
+up : (h l : ℕ) → h < 2 ^ 63 → l < 2 ^ 64 → duration (record { hi = h / 2; lo = l / 2 + h % 2 * 2 ^ 63 }) ≡ half (duration (record { hi = h; lo = l }))
 unfolding half
 up h l p q =
     let rh : ℕ = h / 2 in
     let rl : ℕ = l / 2 + h % 2 * 2 ^ 63 in
-    span-sub rh rl (omega arith) (low-fits h l q)
+    duration-sub rh rl (omega arith) (low-fits h l q)
     ∙ ap (λ (k : ℕ). subℕ (spelled rh rl) (k * 2 ^ 128)) (no-top rh (omega arith))
     ∙ sym
-    (ap (λ (z : ℤ). quotZ z (pos 2)) (span-sub h l (omega arith) q ∙ ap (λ (k : ℕ). subℕ (spelled h l) (k * 2 ^ 128)) (no-top h p))
+    (ap (λ (z : ℤ). quotZ z (pos 2)) (duration-sub h l (omega arith) q ∙ ap (λ (k : ℕ). subℕ (spelled h l) (k * 2 ^ 128)) (no-top h p))
     ∙ half-up (spelled h l) 0 (spelled rh rl) 0 (l % 2) zero-le (omega arith) (floored h l))
 
 returns : tie.Need-returns

@@ -3,10 +3,10 @@ use Prim.Native.Nat.{_^_}
 use mathlib.Core.Path.{sym, ap, ap₂, _∙_}
 use native.Mathlib.Omega.{arith}
 use lib.IntN.{_-ℤ_}
-use Rattle.time.specs.Units.{spanOf}
-use Rattle.time.proofs.Checked.{span-sub}
+use Rattle.time.specs.Units.{durationOf}
+use Rattle.time.proofs.Checked.{duration-sub}
 use Rattle.time.proofs.Digits.{turned-digits}
-use Rattle.time.proofs.Sums.{spans-apart-is}
+use Rattle.time.proofs.Sums.{durations-apart-is}
 use borrow.Author.Needs.{needs}
 use Rattle.time.proofs.Duration.minus.Statement.{statement}
 use Rattle.time.proofs.Duration.minus.Tie as tie
@@ -29,9 +29,9 @@ returns c =
     let a = s .args .self in
     let b = s .args .d in
     c .checked-duration .ensures
-    ∙ ap spanOf
-    (sym (ap₂ _-ℤ_ (span-sub (a .hi) (a .lo) (omega (arith, s .good)) (omega (arith, s .good))) (span-sub (b .hi) (b .lo) (omega (arith, s .good)) (omega (arith, s .good)))
-    ∙ spans-apart-is _ _ _ _ _ _ _ _ (2 ^ 127) (2 ^ 128)
+    ∙ ap durationOf
+    (sym (ap₂ _-ℤ_ (duration-sub (a .hi) (a .lo) (omega (arith, s .good)) (omega (arith, s .good))) (duration-sub (b .hi) (b .lo) (omega (arith, s .good)) (omega (arith, s .good)))
+    ∙ durations-apart-is _ _ _ _ _ _ _ _ (2 ^ 127) (2 ^ 128)
     (turned-digits (2 ^ 64) _ _ _ (2 ^ 63) (a .lo) (c .before .before .before .turned .ensures))
     (turned-digits (2 ^ 64) _ _ _ (2 ^ 63) (b .lo) (c .before .before .turned2 .ensures))
     (c .before .sub .ensures .0)))

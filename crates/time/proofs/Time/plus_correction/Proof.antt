@@ -4,7 +4,7 @@ use mathlib.Core.Path.{sym, ap, _∙_}
 use native.Mathlib.Omega.{arith}
 use lib.IntN.{ℤ, _+ℤ_}
 use Rattle.time.specs.Units.{time, timeOf}
-use Rattle.time.proofs.Checked.{span-sub}
+use Rattle.time.proofs.Checked.{duration-sub}
 use Rattle.time.proofs.Sums.{plus-is}
 use borrow.Author.Needs.{needs}
 use Rattle.time.proofs.Time.plus_correction.Statement.{statement}
@@ -26,7 +26,7 @@ returns c =
     let d = c .before .before .before .scaled in
     c .checked-time .ensures
     ∙ ap timeOf
-    (sym (ap (λ (z : ℤ). time t +ℤ z) (sym (d .ensures) ∙ span-sub _ _ (omega (arith, d .ok)) (omega (arith, d .ok)))
+    (sym (ap (λ (z : ℤ). time t +ℤ z) (sym (d .ensures) ∙ duration-sub _ _ (omega (arith, d .ok)) (omega (arith, d .ok)))
     ∙ plus-is _ _ _ _ _ (2 ^ 128) (c .before .before .add .ensures .0)))
 
 pub plus-correction-spec : {M : Type 1} → statement M

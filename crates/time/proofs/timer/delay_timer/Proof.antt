@@ -1,11 +1,11 @@
 -- `timer::delay_timer`: the tests, then `drawn` at the interval's shift.
-use Prim.Native.Nat.{ℕ, _+_, _*_, _^_}
+use Prim.Native.Nat.{ℕ, _+_, _-_, _*_, _^_}
 use mathlib.Core.Path.{_≡_, sym, ap, _∙_}
 use mathlib.Core.Bool.{true}
 use native.Mathlib.Omega.{arith}
-use borrow.Author.Tests.{lt-ltb, le-ltb}
+use borrow.Author.Tests.{le-leb, lt-leb}
 use Rattle.time.specs.declared.timer.TimerAnswer.the-variants.{Value}
-use Rattle.time.specs.Timers.{interval, inInterval, inDraw, nearest, delayTimer}
+use Rattle.time.specs.Timers.{interval, inInterval, inDraw, toNearest, delayTimer}
 use Rattle.time.specs.TimerLaws.{delay-in, delay-out, draw-out}
 use borrow.Author.Needs.{needs}
 use Rattle.time.proofs.timer.delay_timer.Statement.{statement}
@@ -25,15 +25,15 @@ unfolding inDraw delayTimer
 returns c =
     let a = c .before .before .before .before .before .args in
     let h : inInterval (interval (a .n)) ≡ true = sym (c .before .before .before .before .is-interval .ensures) ∙ c .before .before .before .if1 .taken in
-    ap Value (c .drawn .ensures ∙ ap (λ (x : ℕ). nearest ((2 * a .k + 1) * 10 ^ 9) (2 ^ x)) (c .before .shift-of .ensures .0))
-    ∙ sym (delay-in (a .n) (a .k) h (lt-ltb (a .k) (2 ^ 52) (omega (arith, c .before .before .if2 .taken))))
+    ap Value (c .drawn .ensures ∙ ap (λ (x : ℕ). toNearest ((2 * a .k + 1) * 10 ^ 9) (2 ^ x)) (c .before .shift-of .ensures .0))
+    ∙ sym (delay-in (a .n) (a .k) h (le-leb (a .k) (2 ^ 52 - 1) (omega (arith, c .before .before .if2 .taken))))
 
 returns-2 : tie.Need-returns-2
 unfolding inDraw
 returns-2 c =
     let a = c .before .before .before .args in
     let h : inInterval (interval (a .n)) ≡ true = sym (c .before .before .is-interval .ensures) ∙ c .before .if1 .taken in
-    sym (draw-out (a .n) (a .k) h (le-ltb (a .k) (2 ^ 52) (omega (arith, c .if2 .left))))
+    sym (draw-out (a .n) (a .k) h (lt-leb (a .k) (2 ^ 52 - 1) (omega (arith, c .if2 .left))))
 
 returns-3 : tie.Need-returns-3
 returns-3 c = sym (delay-out _ _ (sym (c .before .is-interval .ensures) ∙ c .if1 .left))

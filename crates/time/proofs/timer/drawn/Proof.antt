@@ -5,7 +5,7 @@ use native.Mathlib.Omega.{arith}
 use native.Mathlib.Nat.{div-div-eq-div-mul, mul-div-mul-right, one-mul}
 use lib.Dec.{lit<}
 use lib.Pow.{pow-pos, pow-add, pow-mono, shl-exact}
-use Rattle.time.specs.Timers.{nearest}
+use Rattle.time.specs.Timers.{toNearest}
 use borrow.Author.Needs.{needs}
 use Rattle.time.proofs.timer.drawn.Statement.{statement}
 use Rattle.time.proofs.timer.drawn.Tie as tie
@@ -46,7 +46,7 @@ raised-fits k s hk hs =
     omega arith
 
 -- rounding to the nearest after the last 26 bits are dropped is rounding to the nearest: they are fewer than half
-dropped : (p h : ℕ) → 0 < h → (p / 2 ^ 26 + h) / (2 * h) ≡ nearest (p * 512) (h * 2 ^ 36)
+dropped : (p h : ℕ) → 0 < h → (p / 2 ^ 26 + h) / (2 * h) ≡ toNearest (p * 512) (h * 2 ^ 36)
 dropped p h some =
     ap (λ (x : ℕ). x / (2 * h)) {x = p / 2 ^ 26 + h} {y = (p + h * 2 ^ 26) / 2 ^ 26} (omega arith)
     ∙ div-div-eq-div-mul (p + h * 2 ^ 26) (2 ^ 26) (2 * h)
@@ -64,14 +64,14 @@ module _ (k s : ℕ) (one : 1 ≤ s) (most : s ≤ 26) where
   abbrev o : ℕ
   o = 2 * k + 1
 
-  rounded : (o / 134217728 * 3906250 + o % 134217728 * 1953125 / 67108864 + (1 * 2 ^ (s - 1)) % 2 ^ 64) / 2 ^ s ≡ nearest (o * 10 ^ 9) (2 ^ (s + 35))
+  rounded : (o / 134217728 * 3906250 + o % 134217728 * 1953125 / 67108864 + (1 * 2 ^ (s - 1)) % 2 ^ 64) / 2 ^ s ≡ toNearest (o * 10 ^ 9) (2 ^ (s + 35))
   rounded =
       ap (λ (x : ℕ). (x + (1 * 2 ^ (s - 1)) % 2 ^ 64) / 2 ^ s) (parts o)
       ∙ ap (λ (x : ℕ). (o * 1953125 / 2 ^ 26 + x) / 2 ^ s) (middle s most)
       ∙ ap (λ (x : ℕ). (o * 1953125 / 2 ^ 26 + 2 ^ (s - 1)) / x) twice
       ∙ dropped (o * 1953125) (2 ^ (s - 1)) (pow-pos (s - 1))
-      ∙ ap (λ (x : ℕ). nearest x (2 ^ (s - 1) * 2 ^ 36)) {x = o * 1953125 * 512} {y = o * 1000000000} (omega arith)
-      ∙ ap (λ (x : ℕ). nearest (o * 1000000000) x) power
+      ∙ ap (λ (x : ℕ). toNearest x (2 ^ (s - 1) * 2 ^ 36)) {x = o * 1953125 * 512} {y = o * 1000000000} (omega arith)
+      ∙ ap (λ (x : ℕ). toNearest (o * 1000000000) x) power
 
 add-raised : tie.Need-add-raised
 add-raised c = record { fits = raised-fits (c .args .k) (c .args .shift) (c .pre .0) (c .pre .2) }
