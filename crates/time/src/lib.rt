@@ -52,6 +52,126 @@ pub enum WireAnswer {
     Out,
 }
 
+impl Time {
+    // Whether the words are a time.
+    pub fn is_time(self) -> bool
+        ensures { λ r. ⌜ r ≡ inTime (time self) ⌝ }
+    {
+        let hi = self.hi;
+        hi < 0x8000_0000_0000_0000
+    }
+
+    // The time of two words, the high one first.
+    pub fn of_words(hi: u64, lo: u64) -> TimeAnswer
+        ensures { λ r. ⌜ r ≡ timeOf (pos (spelled hi lo)) ⌝ }
+    {
+        let t = Time { hi, lo };
+        if t.is_time() {
+            TimeAnswer::Value(t)
+        } else {
+            TimeAnswer::Out
+        }
+    }
+
+    // The time that a timestamp means.
+    pub fn of_wire(w: WireTimestamp) -> TimeAnswer
+        ensures { λ r. ⌜ r ≡ timeOfWire w ⌝ }
+    {
+        let seconds = w.seconds;
+        let nanos = w.nanos;
+        if seconds < 0x1_0000_0000_0000 {
+            // a high word is 2^32 ns: the seconds' upper bits are a whole number of them, and
+            // their lower 32 bits stay below 2^63 ns
+            let low = seconds % 0x1_0000_0000 * 1_000_000_000 + nanos as u64;
+            let hi = seconds / 0x1_0000_0000 * 1_000_000_000 + low / 0x1_0000_0000;
+            let lo = low % 0x1_0000_0000 * 0x1_0000_0000;
+            TimeAnswer::Value(Time { hi, lo })
+        } else {
+            TimeAnswer::Out
+        }
+    }
+
+    // The timestamp of this time and the fraction of a nanosecond behind it, cut to 16 bits.
+    pub fn to_wire(self) -> WireAnswer
+        ensures { λ r. ⌜ r ≡ wireOf (time self) ⌝ }
+    {
+        let hi = self.hi;
+        let lo = self.lo;
+        // a high word is 2^32 ns, so 2^16 * 10^9 of them are 2^48 seconds
+        if hi < 65_536_000_000_000 {
+            let low = hi % 1_000_000_000 * 0x1_0000_0000 + lo / 0x1_0000_0000;
+            let seconds = hi / 1_000_000_000 * 0x1_0000_0000 + low / 1_000_000_000;
+            let nanos = (low % 1_000_000_000) as u32;
+            let fraction = (lo % 0x1_0000_0000 / 0x1_0000) as u16;
+            WireAnswer::Value {
+                timestamp: WireTimestamp { seconds, nanos },
+                fraction,
+            }
+        } else {
+            WireAnswer::Out
+        }
+    }
+
+    // This time plus a correction field, which is the 64-bit word of the wire.
+    pub fn plus_correction(self, c: u64) -> TimeAnswer
+        ensures { λ r. ⌜ r ≡ timeOf (time self +ℤ correction c) ⌝ }
+    {
+        let d = scaled(c);
+        let sum = words::add(self.hi, self.lo, d.hi, d.lo);
+        let carry = sum.carry;
+        checked_time(sum, carry, d.hi >> 63)
+    }
+
+    // This time less a correction field.
+    pub fn minus_correction(self, c: u64) -> TimeAnswer
+        ensures { λ r. ⌜ r ≡ timeOf (time self -ℤ correction c) ⌝ }
+    {
+        let d = scaled(c);
+        let difference = words::sub(self.hi, self.lo, d.hi, d.lo);
+        let borrow = difference.carry;
+        checked_time(difference, d.hi >> 63, borrow)
+    }
+
+    // This time less t.
+    pub fn minus(self, t: Time) -> DurationAnswer
+        ensures { λ r. ⌜ r ≡ durationOf (time self -ℤ time t) ⌝ }
+    {
+        checked_duration(words::sub(self.hi, self.lo, t.hi, t.lo))
+    }
+}
+
+impl Duration {
+    // This duration less d.
+    pub fn minus(self, d: Duration) -> DurationAnswer
+        ensures { λ r. ⌜ r ≡ durationOf (duration self -ℤ duration d) ⌝ }
+    {
+        let a = turned(self.hi);
+        let b = turned(d.hi);
+        checked_duration(words::sub(a, self.lo, b, d.lo))
+    }
+
+    // Half of this, an odd unit dropped towards zero.
+    pub fn half(self) -> Duration
+        ensures { λ r. ⌜ r ≡ halfOf self ⌝ }
+    {
+        let hi = self.hi;
+        let lo = self.lo;
+        let passed = hi % 2 * 0x8000_0000_0000_0000;
+        let low = lo / 2 + passed;
+        if hi < 0x8000_0000_0000_0000 {
+            Duration {
+                hi: hi / 2,
+                lo: low,
+            }
+        } else {
+            // the shift rounds down, so below zero the odd unit is given back
+            let high = hi / 2 + 0x8000_0000_0000_0000;
+            let r = words::add(high, low, 0, lo % 2);
+            Duration { hi: r.hi, lo: r.lo }
+        }
+    }
+}
+
 // The time of w's words with up times 2^128 above them, less down times 2^128.
 fn checked_time(w: Wide, up: u64, down: u64) -> TimeAnswer
     requires { ⌜ (up ≤ 1) × (down ≤ 1) ⌝ }
@@ -101,122 +221,5 @@ fn turned(hi: u64) -> u64
         hi + 0x8000_0000_0000_0000
     } else {
         hi - 0x8000_0000_0000_0000
-    }
-}
-
-impl Time {
-    // Whether the words are a time.
-    pub fn is_time(self) -> bool
-        ensures { λ r. ⌜ r ≡ inTime (time self) ⌝ }
-    {
-        let hi = self.hi;
-        hi < 0x8000_0000_0000_0000
-    }
-
-    // The time of two words, the high one first.
-    pub fn of_words(hi: u64, lo: u64) -> TimeAnswer
-        ensures { λ r. ⌜ r ≡ timeOf (pos (spelled hi lo)) ⌝ }
-    {
-        let t = Time { hi, lo };
-        if t.is_time() {
-            TimeAnswer::Value(t)
-        } else {
-            TimeAnswer::Out
-        }
-    }
-
-    // The time that a timestamp means.
-    pub fn of_wire(w: WireTimestamp) -> TimeAnswer
-        ensures { λ r. ⌜ r ≡ timeOfWire w ⌝ }
-    {
-        let seconds = w.seconds;
-        let nanos = w.nanos;
-        if seconds < 0x1_0000_0000_0000 {
-            let low = seconds % 0x1_0000_0000 * 1_000_000_000 + nanos as u64;
-            let hi = seconds / 0x1_0000_0000 * 1_000_000_000 + low / 0x1_0000_0000;
-            let lo = low % 0x1_0000_0000 * 0x1_0000_0000;
-            TimeAnswer::Value(Time { hi, lo })
-        } else {
-            TimeAnswer::Out
-        }
-    }
-
-    // The timestamp of this time and the fraction of a nanosecond behind it, cut to 16 bits.
-    pub fn to_wire(self) -> WireAnswer
-        ensures { λ r. ⌜ r ≡ wireOf (time self) ⌝ }
-    {
-        let hi = self.hi;
-        let lo = self.lo;
-        // 2^16 * 10^9 high words are 2^48 seconds
-        if hi < 65_536_000_000_000 {
-            let low = hi % 1_000_000_000 * 0x1_0000_0000 + lo / 0x1_0000_0000;
-            let seconds = hi / 1_000_000_000 * 0x1_0000_0000 + low / 1_000_000_000;
-            let nanos = (low % 1_000_000_000) as u32;
-            let fraction = (lo % 0x1_0000_0000 / 0x1_0000) as u16;
-            WireAnswer::Value {
-                timestamp: WireTimestamp { seconds, nanos },
-                fraction,
-            }
-        } else {
-            WireAnswer::Out
-        }
-    }
-
-    // This time plus a correction field, which is the 64-bit word of the wire.
-    pub fn plus_correction(self, c: u64) -> TimeAnswer
-        ensures { λ r. ⌜ r ≡ timeOf (time self +ℤ correction c) ⌝ }
-    {
-        let d = scaled(c);
-        let sum = words::add(self.hi, self.lo, d.hi, d.lo);
-        let carry = sum.carry;
-        checked_time(sum, carry, d.hi >> 63)
-    }
-
-    // This time less a correction field.
-    pub fn minus_correction(self, c: u64) -> TimeAnswer
-        ensures { λ r. ⌜ r ≡ timeOf (time self -ℤ correction c) ⌝ }
-    {
-        let d = scaled(c);
-        let difference = words::sub(self.hi, self.lo, d.hi, d.lo);
-        let borrow = difference.carry;
-        checked_time(difference, d.hi >> 63, borrow)
-    }
-
-    // How far this time lies behind t.
-    pub fn minus(self, t: Time) -> DurationAnswer
-        ensures { λ r. ⌜ r ≡ durationOf (time self -ℤ time t) ⌝ }
-    {
-        checked_duration(words::sub(self.hi, self.lo, t.hi, t.lo))
-    }
-}
-
-impl Duration {
-    pub fn minus(self, d: Duration) -> DurationAnswer
-        ensures { λ r. ⌜ r ≡ durationOf (duration self -ℤ duration d) ⌝ }
-    {
-        let a = turned(self.hi);
-        let b = turned(d.hi);
-        checked_duration(words::sub(a, self.lo, b, d.lo))
-    }
-
-    // Half of this, an odd unit dropped towards zero.
-    pub fn half(self) -> Duration
-        ensures { λ r. ⌜ r ≡ halfOf self ⌝ }
-    {
-        let hi = self.hi;
-        let lo = self.lo;
-        let passed = hi % 2 * 0x8000_0000_0000_0000;
-        let low = lo / 2 + passed;
-        if hi < 0x8000_0000_0000_0000 {
-            Duration {
-                hi: hi / 2,
-                lo: low,
-            }
-        } else {
-            // the shift rounds down, so below zero the odd unit is given back
-            let high = hi / 2 + 0x8000_0000_0000_0000;
-            let r = words::add(high, low, 0, lo % 2);
-            Duration { hi: r.hi, lo: r.lo }
-        }
     }
 }
