@@ -2,7 +2,7 @@
 """Questions to crate time and the answers that document 01 gives them, in Python's integers.
 
 Writes crates/time_vectors/stdin and stdout; with --check only says whether they are what it would
-write. The rules are written here anew from document 01, 'Units', and share nothing with the Rattle.
+write (the gate runs the answers and not this script). The rules are written here anew from document 01, 'Units', and share nothing with the Rattle.
 A question is a letter and four words; an answer is the letter, 01's number and the values.
 """
 
@@ -64,9 +64,9 @@ def answer(letter, a, b, c, d):
     if letter == "i":
         return str(int(first in TIMES))
     if letter == "w":
-        return within(first, TIMES)
+        return two_words(first) if first in TIMES else "3"
     if letter == "r":
-        return within((a * 10**9 + b) * NS, TIMES) if a < 2**48 else "7"
+        return two_words((a * 10**9 + b) * NS) if a < 2**48 else "5"
     if letter == "s":
         return wire(first)
     if letter == "p":
@@ -79,6 +79,10 @@ def answer(letter, a, b, c, d):
         return within(one - two, DURATIONS)
     if letter == "h":
         return two_words(half(one))
+    if letter == "n":
+        return str(int(-9 <= n <= 16))
+    if letter == "k":
+        return str(int(b < 2**52))
     if letter == "y":
         return timer(n, lambda: sync(n))
     if letter == "z":
@@ -90,10 +94,21 @@ def split(n):
     return divmod(n % 2**128, W)
 
 
+def beside_a_half(n):
+    """The draws whose timers come nearest to a half, from above and from below.
+
+    The timer is (2k+1) * 5^9 / 2^(43-n), so its fraction is what (2k+1) * 5^9 leaves modulo 2^(43-n).
+    """
+    unit = 2 ** (43 - n)
+    for rest in [unit // 2 - 1, unit // 2 + 1]:
+        odd = rest * pow(5**9, -1, unit) % unit
+        yield odd // 2
+
+
 def questions():
     """Every letter at the ends of its ranges, the slips that 01 names, and numbers of every size."""
     ends = [0, 1, 65535, 65536, 2**63, W - 1, W, 2**79 - 1, 2**79, 2**127 - 2**79 - 1, 2**127 - 2**79]
-    ends += [2**127 - 65536, 2**127 - 1, 2**127, 2**128 - 1]
+    ends += [2**127 - 65537, 2**127 - 65536, 2**127 - 1, 2**127, 2**128 - 1]
     words = [0, 1, 2**48 - 1, 2**48, 2**63 - 1, 2**63, 2**63 + 1, W - 1]
     spans = [0, 1, 2, 3, W - 1, W, W + 1, 2**127 - 2, 2**127 - 1]
     spans += [-n for n in spans if n] + [-(2**127)]
@@ -119,10 +134,17 @@ def questions():
         yield "h", *split(n), 0, 0
         for m in [0, 1, -1, W, -W, 2**127 - 1, -(2**127)]:
             yield "d", *split(n), *split(m)
+    draws = [0, 1, 2**51 - 1, 2**51, 2**52 - 1, 2**52, W - 1]
+    for k in draws:
+        yield "k", 0, k, 0, 0
     for n in [*range(-12, 20), 127, -128]:
+        yield "n", n % 256, 0, 0, 0
         yield "y", n % 256, 0, 0, 0
     for n in range(-10, 18):
-        for k in [0, 1, 2**51 - 1, 2**51, 2**52 - 1, 2**52, W - 1]:
+        for k in draws:
+            yield "z", n % 256, k, 0, 0
+    for n in range(-9, 17):
+        for k in beside_a_half(n):
             yield "z", n % 256, k, 0, 0
     draw = random.Random(1588)
     sized = lambda bits: draw.getrandbits(draw.randint(1, bits))

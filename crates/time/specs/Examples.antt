@@ -4,9 +4,11 @@ use Prim.Native.Nat.{_+_, _-_, _*_, _^_}
 use lib.IntN.{ℤ, pos, negℤ, _+ℤ_, _-ℤ_}
 use Rattle.time.specs.declared.TimeAnswer.the-variants as T
 use Rattle.time.specs.declared.DurationAnswer.the-variants as D
+use Rattle.time.specs.declared.WordsAnswer.the-variants as O
+use Rattle.time.specs.declared.ReadAnswer.the-variants as R
 use Rattle.time.specs.declared.WireAnswer.the-variants as W
-use Rattle.time.specs.declared.timer.TimerAnswer.the-variants as R
-use Rattle.time.specs.Units.{inTime, timeOf, signed, duration, inDuration, durationOf, wire, timeOfWire, wireOf, correction, half}
+use Rattle.time.specs.declared.timer.TimerAnswer.the-variants as M
+use Rattle.time.specs.Units.{inTime, timeOf, timeOfWords, signed, duration, inDuration, durationOf, wire, timeOfWire, wireOf, correction, half}
 use Rattle.time.specs.Timers.{interval, inInterval, inDraw, syncTimer, delayTimer, syncTimerOf, delayTimerOf}
 
 -- ---- halves (01's example H, and the lowest duration)
@@ -53,6 +55,10 @@ before-the-first-time : timeOf (negℤ (pos 1)) ≡ T.Out
 unfolding timeOf inTime
 before-the-first-time = refl
 
+no-time : timeOfWords (2 ^ 63) 0 ≡ O.NoTime
+unfolding timeOfWords inTime
+no-time = refl
+
 last-duration : durationOf (pos (2 ^ 127 - 1)) ≡ D.Value (record { hi = 2 ^ 63 - 1; lo = 2 ^ 64 - 1 })
 unfolding durationOf inDuration
 last-duration = refl
@@ -97,24 +103,24 @@ past-the-last = refl
 
 -- ---- wire timestamps: 999,999,999 and 1,000,000,000 nanoseconds are each the number they are, and the second is sent as a second
 
-below-a-second : timeOfWire (record { seconds = 5; nanos = 999999999 }) ≡ T.Value (record { hi = 1; lo = 5999999999 * 2 ^ 32 - 2 ^ 64 })
-unfolding timeOfWire timeOf inTime wire
+below-a-second : timeOfWire (record { seconds = 5; nanos = 999999999 }) ≡ R.Value (record { hi = 1; lo = 5999999999 * 2 ^ 32 - 2 ^ 64 })
+unfolding timeOfWire wire
 below-a-second = refl
 
 a-second : timeOfWire (record { seconds = 5; nanos = 1000000000 }) ≡ timeOfWire (record { seconds = 6; nanos = 0 })
-unfolding timeOfWire timeOf inTime wire
+unfolding timeOfWire wire
 a-second = refl
 
 sent-with-its-fraction : wireOf (pos (5999999999 * 2 ^ 32 + 0xabcd_ef01)) ≡ W.Value (record { seconds = 5; nanos = 999999999 }) 0xabcd
 unfolding wireOf
 sent-with-its-fraction = refl
 
-last-second : timeOfWire (record { seconds = 2 ^ 48 - 1; nanos = 0 }) ≡ timeOf (pos ((2 ^ 48 - 1) * 10 ^ 9 * 2 ^ 32))
-unfolding timeOfWire timeOf inTime wire
+last-second : timeOfWire (record { seconds = 2 ^ 48 - 1; nanos = 0 }) ≡ R.Value (record { hi = 65535999999999; lo = 2 ^ 64 - 1000000000 * 2 ^ 32 })
+unfolding timeOfWire wire
 last-second = refl
 
-past-the-last-second : timeOfWire (record { seconds = 2 ^ 48; nanos = 0 }) ≡ T.Out
-unfolding timeOfWire timeOf inTime wire
+past-the-last-second : timeOfWire (record { seconds = 2 ^ 48; nanos = 0 }) ≡ R.Seconds
+unfolding timeOfWire wire
 past-the-last-second = refl
 
 last-sent : wireOf (pos (2 ^ 48 * 10 ^ 9 * 2 ^ 32 - 1)) ≡ W.Value (record { seconds = 2 ^ 48 - 1; nanos = 999999999 }) 0xffff
@@ -128,35 +134,35 @@ not-sent = refl
 -- ---- timers (01's example J, and the ends of the limits)
 
 -- rounded up, from 999,999,999.9999998
-the-draw : delayTimerOf 0 (2 ^ 51 - 1) ≡ R.Value 1000000000
+the-draw : delayTimerOf 0 (2 ^ 51 - 1) ≡ M.Value 1000000000
 unfolding delayTimerOf delayTimer inInterval inDraw interval signed
 the-draw = refl
 
 -- rounded down, from 0.0000002
-no-draw : delayTimerOf 0 0 ≡ R.Value 0
+lowest-draw : delayTimerOf 0 0 ≡ M.Value 0
 unfolding delayTimerOf delayTimer inInterval inDraw interval signed
-no-draw = refl
+lowest-draw = refl
 
-longest-draw : delayTimerOf 16 (2 ^ 52 - 1) ≡ R.Value 131072000000000
+longest-draw : delayTimerOf 16 (2 ^ 52 - 1) ≡ M.Value 131072000000000
 unfolding delayTimerOf delayTimer inInterval inDraw interval signed
 longest-draw = refl
 
-past-the-draws : delayTimerOf 16 (2 ^ 52) ≡ R.Draw
+past-the-draws : delayTimerOf 16 (2 ^ 52) ≡ M.Draw
 unfolding delayTimerOf delayTimer inInterval inDraw interval signed
 past-the-draws = refl
 
-past-the-intervals : delayTimerOf 17 (2 ^ 52) ≡ R.Interval
+past-the-intervals : delayTimerOf 17 (2 ^ 52) ≡ M.Interval
 unfolding delayTimerOf delayTimer inInterval inDraw interval signed
 past-the-intervals = refl
 
-shortest-sync : syncTimerOf (256 - 9) ≡ R.Value 1953125
+shortest-sync : syncTimerOf (256 - 9) ≡ M.Value 1953125
 unfolding syncTimerOf syncTimer inInterval interval signed
 shortest-sync = refl
 
-longest-sync : syncTimerOf 16 ≡ R.Value 65536000000000
+longest-sync : syncTimerOf 16 ≡ M.Value 65536000000000
 unfolding syncTimerOf syncTimer inInterval interval signed
 longest-sync = refl
 
-below-the-intervals : syncTimerOf (256 - 10) ≡ R.Interval
+below-the-intervals : syncTimerOf (256 - 10) ≡ M.Interval
 unfolding syncTimerOf syncTimer inInterval interval signed
 below-the-intervals = refl

@@ -142,7 +142,7 @@ pub signed-high : (bits n : ℕ) → 2 ^ (bits - 1) ≤ n → signed bits n ≡ 
 unfolding signed
 signed-high bits n h = simp (le-ltb n (2 ^ (bits - 1)) h) (pos-minus n (2 ^ bits))
 
-not-below : (a b : ℕ) → (a < b → ⊥) → b ≤ a
+pub not-below : (a b : ℕ) → (a < b → ⊥) → b ≤ a
 not-below a b h = omega arith
 
 duration-words : (z : ℤ) → inDuration z ≡ true → duration (durationWords z) ≡ z

@@ -6,38 +6,52 @@ use Rattle.time.specs.declared.TimeAnswer.{TimeAnswer}
 use Rattle.time.specs.declared.TimeAnswer.the-variants as T
 use Rattle.time.specs.declared.DurationAnswer.{DurationAnswer}
 use Rattle.time.specs.declared.DurationAnswer.the-variants as D
+use Rattle.time.specs.declared.WordsAnswer.{WordsAnswer}
+use Rattle.time.specs.declared.WordsAnswer.the-variants as O
+use Rattle.time.specs.declared.ReadAnswer.{ReadAnswer}
+use Rattle.time.specs.declared.ReadAnswer.the-variants as R
 use Rattle.time.specs.declared.WireAnswer.{WireAnswer}
 use Rattle.time.specs.declared.WireAnswer.the-variants as W
 use Rattle.time.specs.declared.timer.TimerAnswer.{TimerAnswer}
-use Rattle.time.specs.declared.timer.TimerAnswer.the-variants as R
+use Rattle.time.specs.declared.timer.TimerAnswer.the-variants as M
 use Rattle.time.specs.Units.{time, duration}
 
 pub record Told : Type 0 where
   pub number : ℕ
   pub values : List ℤ
 
-abbrev pub taken : List ℤ → Told
-taken vs = record { number = 0; values = vs }
+abbrev pub answered : List ℤ → Told
+answered vs = record { number = 0; values = vs }
 
 abbrev pub refusal : ℕ → Told
 refusal n = record { number = n; values = [] }
 
--- in units; 7 where a sum, a difference or a field leaves its range
+-- in units; 7 where a sum or a difference leaves its range
 abbrev pub toldTime : TimeAnswer → Told
-toldTime (T.Value t) = taken (time t ∷ [])
+toldTime (T.Value t) = answered (time t ∷ [])
 toldTime T.Out = refusal 7
 
 abbrev pub toldDuration : DurationAnswer → Told
-toldDuration (D.Value d) = taken (duration d ∷ [])
+toldDuration (D.Value d) = answered (duration d ∷ [])
 toldDuration D.Out = refusal 7
 
--- seconds, nanoseconds, and 2 ^ -16 nanoseconds
+-- the number is that of the row in whose place the words stand: 2 in the record, 3 in an event
+abbrev pub toldWords : ℕ → WordsAnswer → Told
+toldWords row (O.Value t) = answered (time t ∷ [])
+toldWords row O.NoTime = refusal row
+
+-- 48 bits hold no such seconds, so no message is refused for them; one that were would be answered 5
+abbrev pub toldRead : ReadAnswer → Told
+toldRead (R.Value t) = answered (time t ∷ [])
+toldRead R.Seconds = refusal 5
+
+-- seconds, nanoseconds, and 2 ^ -16 nanoseconds; 7 where the sent seconds leave their range
 abbrev pub toldWire : WireAnswer → Told
-toldWire (W.Value w f) = taken (pos (w .seconds) ∷ pos (w .nanos) ∷ pos f ∷ [])
+toldWire (W.Value w f) = answered (pos (w .seconds) ∷ pos (w .nanos) ∷ pos f ∷ [])
 toldWire W.Out = refusal 7
 
 -- nanoseconds; 2 where the record's interval is out of limits, 3 where the event's draw is
 abbrev pub toldTimer : TimerAnswer → Told
-toldTimer (R.Value ns) = taken (pos ns ∷ [])
-toldTimer R.Interval = refusal 2
-toldTimer R.Draw = refusal 3
+toldTimer (M.Value ns) = answered (pos ns ∷ [])
+toldTimer M.Interval = refusal 2
+toldTimer M.Draw = refusal 3

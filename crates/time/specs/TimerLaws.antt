@@ -5,16 +5,16 @@ use Prim.Native.Nat.{ℕ, suc, _+_, _-_, _*_, _/_, _%_, _^_, _<_, _≤_}
 use native.Mathlib.Omega.{arith}
 use native.Mathlib.Decide.{decLt}
 use native.Mathlib.Nat.{mod-lt, div-add-mod', mul-div-cancel, mul-assoc, mul-le-mul-right}
-use lib.Dec.{leb}
+use lib.Dec.{leb, ltb, leb·suc-suc}
 use lib.Pow.{pow-add, pow-pos}
 use lib.IntN.{ℤ, pos, negsuc, natAbs, _-ℤ_}
 use borrow.Author.Tests.{leb-true}
 use Rattle.time.specs.declared.timer.TimerAnswer.the-variants.{Value, Interval, Draw}
-use Rattle.time.specs.Timers.{interval, inInterval, inDraw, syncTimer, toNearest, delayTimer, syncTimerOf, delayTimerOf}
+use Rattle.time.specs.Timers.{interval, inInterval, inDraw, syncTimer, toNearest, oddOf, delayTimer, syncTimerOf, delayTimerOf}
 use Rattle.time.specs.Laws.{signed-low, signed-high}
 use Rattle.time.specs.Lemmas.Integers.{sub-ge, sub-lt, pos-minus}
 
--- ---- a log interval's byte
+-- ---- a log interval's byte, and a draw
 
 pub interval-low : (n : ℕ) → n < 128 → interval n ≡ pos n
 unfolding interval
@@ -31,6 +31,10 @@ in-low n = refl
 pub in-high : (m : ℕ) → inInterval (negsuc m) ≡ leb m 8
 unfolding inInterval
 in-high m = and-true (leb m 8)
+
+pub in-draw : (k : ℕ) → inDraw k ≡ ltb k (2 ^ 52)
+unfolding inDraw
+in-draw k = sym (leb·suc-suc k (2 ^ 52 - 1))
 
 -- 52 - n, as what is left of it above 36
 above-36 : ℤ → ℕ
@@ -65,13 +69,13 @@ sync-exact m h =
 -- ---- the delay timer
 
 -- no draw gives an exact half: (2 k + 1) × 10 ^ 9 × 2 ^ (n - 52) is not m + 1/2
-pub no-half : (n : ℤ) (k m : ℕ) → inInterval n ≡ true → 2 * ((2 * k + 1) * 10 ^ 9) ≡ (2 * m + 1) * 2 ^ natAbs (pos 52 -ℤ n) → ⊥
+pub no-half : (n : ℤ) (k m : ℕ) → inInterval n ≡ true → 2 * (oddOf k * 10 ^ 9) ≡ (2 * m + 1) * 2 ^ natAbs (pos 52 -ℤ n) → ⊥
 no-half n k m h e = odd-even k ((2 * m + 1) * 2 ^ above-36 n) (e ∙ split)
   where
-    odd-even : (k q : ℕ) → 2 * ((2 * k + 1) * 1000000000) ≡ q * 68719476736 → ⊥
+    odd-even : (k q : ℕ) → 2 * (oddOf k * 10 ^ 9) ≡ q * 2 ^ 36 → ⊥
     odd-even k q e = omega arith
 
-    split : (2 * m + 1) * 2 ^ natAbs (pos 52 -ℤ n) ≡ (2 * m + 1) * 2 ^ above-36 n * 68719476736
+    split : (2 * m + 1) * 2 ^ natAbs (pos 52 -ℤ n) ≡ (2 * m + 1) * 2 ^ above-36 n * 2 ^ 36
     split =
         ap (λ (x : ℕ). (2 * m + 1) * 2 ^ x) (exponent n h) ∙ ap (λ (x : ℕ). (2 * m + 1) * x) (pow-add 2 (above-36 n) 36)
         ∙ sym (mul-assoc (2 * m + 1) (2 ^ above-36 n) (2 ^ 36))
@@ -112,10 +116,10 @@ to-nearest-near a d h whole =
     quotient-near a d (toNearest a d) ((2 * a + d) % (2 * d)) h (div-add-mod' (2 * a + d) (2 * d)) (mod-lt (2 * a + d) (omega arith)) whole
 
 -- and the delay timer never is one
-pub delay-near : (n : ℤ) (k : ℕ) → inInterval n ≡ true → Near ((2 * k + 1) * 10 ^ 9) (2 ^ natAbs (pos 52 -ℤ n)) (delayTimer n k)
+pub delay-near : (n : ℤ) (k : ℕ) → inInterval n ≡ true → Near (oddOf k * 10 ^ 9) (2 ^ natAbs (pos 52 -ℤ n)) (delayTimer n k)
 unfolding delayTimer
 delay-near n k h =
-    to-nearest-near ((2 * k + 1) * 10 ^ 9) (2 ^ natAbs (pos 52 -ℤ n)) (pow-pos (natAbs (pos 52 -ℤ n))) (λ m. no-half n k m h)
+    to-nearest-near (oddOf k * 10 ^ 9) (2 ^ natAbs (pos 52 -ℤ n)) (pow-pos (natAbs (pos 52 -ℤ n))) (λ m. no-half n k m h)
 
 -- ---- what each answer means
 

@@ -27,9 +27,13 @@ syncTimer (negsuc m) = 10 ^ 9 / 2 ^ suc m
 abbrev pub toNearest : ℕ → ℕ → ℕ
 toNearest a d = (2 * a + d) / (2 * d)
 
--- the delay timer: the draw k stands for (2 k + 1) / 2 ^ 53, and the timer is (2 k + 1) × 10 ^ 9 × 2 ^ (n - 52), to the nearest
+-- the draw k stands for (2 k + 1) / 2 ^ 53
+abbrev pub oddOf : ℕ → ℕ
+oddOf k = 2 * k + 1
+
+-- the delay timer: (2 k + 1) × 10 ^ 9 × 2 ^ (n - 52), to the nearest. An interval is at most 16, so 52 - n is not negative.
 unfoldable pub delayTimer : ℤ → ℕ → ℕ
-delayTimer n k = toNearest ((2 * k + 1) * 10 ^ 9) (2 ^ natAbs (pos 52 -ℤ n))
+delayTimer n k = toNearest (oddOf k * 10 ^ 9) (2 ^ natAbs (pos 52 -ℤ n))
 
 -- what the two functions answer, by the interval's byte: the interval is looked at first
 unfoldable pub syncTimerOf : ℕ → TimerAnswer

@@ -2,17 +2,22 @@
 use mathlib.Core.Path.{_≡_, refl, ap, _∙_}
 use mathlib.Core.Bool.{Bool, true, false, cond}
 use mathlib.Core.List.{[], _∷_}
-use Prim.Native.Nat.{ℕ, _/_, _%_, _^_}
+use Prim.Native.Nat.{ℕ, _/_, _%_, _^_, _<_}
+use borrow.Author.Tests.{ltb-true}
 use lib.Dec.{ltb}
 use lib.IntN.{ℤ, pos}
 use Rattle.time.specs.declared.TimeAnswer.the-variants as T
 use Rattle.time.specs.declared.DurationAnswer.the-variants as D
+use Rattle.time.specs.declared.WireTimestamp.{WireTimestamp}
+use Rattle.time.specs.declared.WordsAnswer.the-variants as O
+use Rattle.time.specs.declared.ReadAnswer.the-variants as R
 use Rattle.time.specs.declared.WireAnswer.the-variants as W
 use Rattle.time.specs.declared.timer.TimerAnswer.{TimerAnswer}
-use Rattle.time.specs.declared.timer.TimerAnswer.the-variants as R
-use Rattle.time.specs.Units.{inTime, timeWords, timeOf, inDuration, durationWords, durationOf, wireOf}
+use Rattle.time.specs.declared.timer.TimerAnswer.the-variants as M
+use Rattle.time.specs.Units.{spelled, time, inTime, timeWords, timeOf, timeOfWords, wire, timeOfWire, inDuration, durationWords, durationOf, wireOf}
 use Rattle.time.specs.Timers.{interval, inInterval, inDraw, syncTimer, syncTimerOf, delayTimer, delayTimerOf}
-use Rattle.time.specs.Numbers.{Told, taken, refusal, toldTime, toldDuration, toldWire, toldTimer}
+use Rattle.time.specs.Numbers.{Told, answered, refusal, toldTime, toldDuration, toldWords, toldRead, toldWire, toldTimer}
+use Rattle.time.specs.WireLaws.{read-in, read-is}
 use Rattle.time.specs.Laws.{time-in, time-is, duration-in, duration-is}
 
 -- a function of what a test picks
@@ -25,35 +30,46 @@ where-true : {A : Type 0} (b : Bool) (x x′ y : A) → (b ≡ true → x ≡ x�
 where-true true x x′ y e = e refl
 where-true false x x′ y e = refl
 
-pub told-time : (z : ℤ) → toldTime (timeOf z) ≡ cond (inTime z) (taken (z ∷ [])) (refusal 7)
+pub told-time : (z : ℤ) → toldTime (timeOf z) ≡ cond (inTime z) (answered (z ∷ [])) (refusal 7)
 unfolding timeOf
 told-time z =
     of-cond toldTime (inTime z) (T.Value (timeWords z)) T.Out
-    ∙ where-true (inTime z) (toldTime (T.Value (timeWords z))) (taken (z ∷ [])) (refusal 7) (λ h. ap (λ (y : ℤ). taken (y ∷ [])) (time-is z (timeWords z) (time-in z h) .value))
+    ∙ where-true (inTime z) (toldTime (T.Value (timeWords z))) (answered (z ∷ [])) (refusal 7) (λ h. ap (λ (y : ℤ). answered (y ∷ [])) (time-is z (timeWords z) (time-in z h) .value))
 
-pub told-duration : (z : ℤ) → toldDuration (durationOf z) ≡ cond (inDuration z) (taken (z ∷ [])) (refusal 7)
+pub told-duration : (z : ℤ) → toldDuration (durationOf z) ≡ cond (inDuration z) (answered (z ∷ [])) (refusal 7)
 unfolding durationOf
 told-duration z =
     of-cond toldDuration (inDuration z) (D.Value (durationWords z)) D.Out
-    ∙ where-true (inDuration z) (toldDuration (D.Value (durationWords z))) (taken (z ∷ [])) (refusal 7) (λ h. ap (λ (y : ℤ). taken (y ∷ [])) (duration-is z (durationWords z) (duration-in z h) .value))
+    ∙ where-true (inDuration z) (toldDuration (D.Value (durationWords z))) (answered (z ∷ [])) (refusal 7) (λ h. ap (λ (y : ℤ). answered (y ∷ [])) (duration-is z (durationWords z) (duration-in z h) .value))
 
-pub told-wire : (n : ℕ) → toldWire (wireOf (pos n)) ≡ cond (ltb (n / 2 ^ 32 / 10 ^ 9) (2 ^ 48)) (taken (pos (n / 2 ^ 32 / 10 ^ 9) ∷ pos (n / 2 ^ 32 % 10 ^ 9) ∷ pos (n % 2 ^ 32 / 2 ^ 16) ∷ [])) (refusal 7)
+pub told-words : (row hi lo : ℕ) → toldWords row (timeOfWords hi lo) ≡ cond (inTime (pos (spelled hi lo))) (answered (pos (spelled hi lo) ∷ [])) (refusal row)
+unfolding timeOfWords time
+told-words row hi lo = of-cond (toldWords row) (inTime (pos (spelled hi lo))) (O.Value (record { hi = hi; lo = lo })) O.NoTime
+
+pub told-read : (w : WireTimestamp) → w .nanos < 2 ^ 32 → toldRead (timeOfWire w) ≡ cond (ltb (w .seconds) (2 ^ 48)) (answered (wire w ∷ [])) (refusal 5)
+unfolding timeOfWire
+told-read w q =
+    of-cond toldRead (ltb (w .seconds) (2 ^ 48)) (R.Value (timeWords (wire w))) R.Seconds
+    ∙ where-true (ltb (w .seconds) (2 ^ 48)) (toldRead (R.Value (timeWords (wire w)))) (answered (wire w ∷ [])) (refusal 5)
+    (λ h. ap (λ (y : ℤ). answered (y ∷ [])) (read-is w (timeWords (wire w)) q (read-in w (ltb-true (w .seconds) (2 ^ 48) h)) .value))
+
+pub told-wire : (n : ℕ) → toldWire (wireOf (pos n)) ≡ cond (ltb (n / 2 ^ 32 / 10 ^ 9) (2 ^ 48)) (answered (pos (n / 2 ^ 32 / 10 ^ 9) ∷ pos (n / 2 ^ 32 % 10 ^ 9) ∷ pos (n % 2 ^ 32 / 2 ^ 16) ∷ [])) (refusal 7)
 unfolding wireOf
 told-wire n =
     of-cond toldWire (ltb (n / 2 ^ 32 / 10 ^ 9) (2 ^ 48))
     (W.Value (record { seconds = n / 2 ^ 32 / 10 ^ 9; nanos = n / 2 ^ 32 % 10 ^ 9 }) (n % 2 ^ 32 / 2 ^ 16))
     W.Out
 
-pub told-sync : (byte : ℕ) → toldTimer (syncTimerOf byte) ≡ cond (inInterval (interval byte)) (taken (pos (syncTimer (interval byte)) ∷ [])) (refusal 2)
+pub told-sync : (byte : ℕ) → toldTimer (syncTimerOf byte) ≡ cond (inInterval (interval byte)) (answered (pos (syncTimer (interval byte)) ∷ [])) (refusal 2)
 unfolding syncTimerOf
-told-sync byte = of-cond toldTimer (inInterval (interval byte)) (R.Value (syncTimer (interval byte))) R.Interval
+told-sync byte = of-cond toldTimer (inInterval (interval byte)) (M.Value (syncTimer (interval byte))) M.Interval
 
 module _ (byte k : ℕ) where
   abbrev drawn : TimerAnswer
-  drawn = cond (inDraw k) (R.Value (delayTimer (interval byte) k)) R.Draw
+  drawn = cond (inDraw k) (M.Value (delayTimer (interval byte) k)) M.Draw
 
-  pub told-delay : toldTimer (delayTimerOf byte k) ≡ cond (inInterval (interval byte)) (cond (inDraw k) (taken (pos (delayTimer (interval byte) k) ∷ [])) (refusal 3)) (refusal 2)
+  pub told-delay : toldTimer (delayTimerOf byte k) ≡ cond (inInterval (interval byte)) (cond (inDraw k) (answered (pos (delayTimer (interval byte) k) ∷ [])) (refusal 3)) (refusal 2)
   unfolding delayTimerOf
   told-delay =
-      of-cond toldTimer (inInterval (interval byte)) drawn R.Interval
-      ∙ ap (λ (x : Told). cond (inInterval (interval byte)) x (refusal 2)) (of-cond toldTimer (inDraw k) (R.Value (delayTimer (interval byte) k)) R.Draw)
+      of-cond toldTimer (inInterval (interval byte)) drawn M.Interval
+      ∙ ap (λ (x : Told). cond (inInterval (interval byte)) x (refusal 2)) (of-cond toldTimer (inDraw k) (M.Value (delayTimer (interval byte) k)) M.Draw)

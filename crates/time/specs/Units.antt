@@ -1,5 +1,6 @@
 -- Document 01, 'Units', in its own order: what two words, a wire timestamp, a correction field and halving mean. One unit is 2 ^ -32 ns.
 -- Numbers of units stand in ℤ, or in ℕ where nothing is negative. `Timers` has the section's last part.
+-- From the library: `pos n` is n and `negsuc n` is -(n + 1); `cond t a b` is a where the test t is true, and b otherwise; `ltb`, `leb` and, in ℤ, `leZ` test an order; `quotZ` divides and drops what is left over, towards zero.
 use Prim.Native.Nat.{ℕ, suc, _+_, _-_, _*_, _/_, _%_, _^_}
 use mathlib.Core.Bool.{Bool, cond, _&&_}
 use lib.Dec.{ltb}
@@ -12,10 +13,14 @@ use Rattle.time.specs.declared.TimeAnswer.{TimeAnswer}
 use Rattle.time.specs.declared.TimeAnswer.the-variants as T
 use Rattle.time.specs.declared.DurationAnswer.{DurationAnswer}
 use Rattle.time.specs.declared.DurationAnswer.the-variants as D
+use Rattle.time.specs.declared.WordsAnswer.{WordsAnswer}
+use Rattle.time.specs.declared.WordsAnswer.the-variants as O
+use Rattle.time.specs.declared.ReadAnswer.{ReadAnswer}
+use Rattle.time.specs.declared.ReadAnswer.the-variants as R
 use Rattle.time.specs.declared.WireAnswer.{WireAnswer}
 use Rattle.time.specs.declared.WireAnswer.the-variants as W
 
--- from one number to another, both of them taken
+-- from the first number to the last, both of them included
 abbrev pub within : ℤ → ℤ → ℤ → Bool
 within first last z = leZ first z && leZ z last
 
@@ -37,6 +42,10 @@ timeWords z = record { hi = natAbs z / 2 ^ 64; lo = natAbs z % 2 ^ 64 }
 
 unfoldable pub timeOf : ℤ → TimeAnswer
 timeOf z = cond (inTime z) (T.Value (timeWords z)) T.Out
+
+-- two words as a time, or `NoTime`
+unfoldable pub timeOfWords : ℕ → ℕ → WordsAnswer
+timeOfWords hi lo = cond (inTime (pos (spelled hi lo))) (O.Value (record { hi = hi; lo = lo })) O.NoTime
 
 -- ---- a duration: -2 ^ 127 to 2 ^ 127 - 1 units, its two words in two's complement
 
@@ -67,9 +76,9 @@ durationOf z = cond (inDuration z) (D.Value (durationWords z)) D.Out
 unfoldable pub wire : WireTimestamp → ℤ
 wire w = pos ((w .seconds * 10 ^ 9 + w .nanos) * 2 ^ 32)
 
--- the time that a timestamp means, or `Out` where its seconds have more than 48 bits
-unfoldable pub timeOfWire : WireTimestamp → TimeAnswer
-timeOfWire w = cond (ltb (w .seconds) (2 ^ 48)) (timeOf (wire w)) T.Out
+-- the time that a timestamp means, or `Seconds` where it has more than 48 bits of them. (`WireLaws`, `wire-in`: with 48 and 32 bits it always means a time.)
+unfoldable pub timeOfWire : WireTimestamp → ReadAnswer
+timeOfWire w = cond (ltb (w .seconds) (2 ^ 48)) (R.Value (timeWords (wire w))) R.Seconds
 
 -- the timestamp of so many units, whole nanoseconds, with the fraction of one cut to 16 bits ('Sent messages'); or `Out` where the seconds have more than 48 bits
 unfoldable pub wireOf : ℤ → WireAnswer

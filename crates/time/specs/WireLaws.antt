@@ -1,35 +1,60 @@
 -- Laws of wire timestamps, for callers to cite: which are taken, what a time becomes when it is sent, and that what is read of it is the time cut to 16 bits of a nanosecond.
-use mathlib.Core.Path.{_≡_, _∙_, subst}
+use mathlib.Core.Path.{_≡_, ap, _∙_, subst}
 use mathlib.Core.Bool.{Bool, true}
 use Prim.Native.Nat.{ℕ, _+_, _*_, _/_, _%_, _^_, _<_, _≤_}
 use native.Mathlib.Omega.{arith}
 use native.Mathlib.Nat.{mod-lt, lt-trans}
 use lib.Dec.{ltb, lit<}
-use lib.IntN.{pos}
-use borrow.Author.Tests.{lt-ltb, le-ltb, ltb-true}
+use lib.IntN.{pos, natAbs}
+use borrow.Author.Tests.{lt-ltb, le-ltb, ltb-true, ltb-false}
 use Rattle.time.specs.declared.WireTimestamp.{WireTimestamp}
 use Rattle.time.specs.declared.TimeAnswer.the-variants as T
+use Rattle.time.specs.declared.Time.{Time}
+use Rattle.time.specs.declared.ReadAnswer.the-variants as R
 use Rattle.time.specs.declared.WireAnswer.the-variants as W
-use Rattle.time.specs.Units.{inTime, timeOf, wire, timeOfWire, wireOf}
-use Rattle.time.specs.Laws.{was-value, in-time}
+use Rattle.time.specs.Units.{inTime, timeWords, wire, timeOfWire, wireOf}
+use Rattle.time.specs.Laws.{was-value, was-refused, in-time, IsTime, time-is, time-in}
 
 -- ---- read
 
 -- a timestamp of the wire's widths means a time
-pub wire-in : (w : WireTimestamp) → w .seconds < 2 ^ 48 → w .nanos < 2 ^ 32 → inTime (wire w) ≡ true
-unfolding wire
-wire-in w p q = in-time _ ∙ lt-ltb _ (2 ^ 127) (lt-trans (small (w .seconds) (w .nanos) p q) (lit< tt))
-  where
-    small : (s n : ℕ) → s < 2 ^ 48 → n < 2 ^ 32 → (s * 10 ^ 9 + n) * 2 ^ 32 < 2 ^ 111
-    small s n p q = omega arith
+module _ (w : WireTimestamp) (p : w .seconds < 2 ^ 48) (q : w .nanos < 2 ^ 32) where
+  small : natAbs (wire w) < 2 ^ 111
+  unfolding wire
+  small = omega arith
 
-pub of-wire-in : (w : WireTimestamp) → w .seconds < 2 ^ 48 → timeOfWire w ≡ timeOf (wire w)
-unfolding timeOfWire
-of-wire-in w p = simp (lt-ltb (w .seconds) (2 ^ 48) p)
+  pub wire-in : inTime (wire w) ≡ true
+  unfolding wire
+  wire-in = in-time (natAbs (wire w)) ∙ lt-ltb (natAbs (wire w)) (2 ^ 127) (lt-trans small (lit< tt))
 
-pub of-wire-out : (w : WireTimestamp) → 2 ^ 48 ≤ w .seconds → timeOfWire w ≡ T.Out
+-- it is taken below 2 ^ 48 seconds, and only there
+pub read-in : (w : WireTimestamp) → w .seconds < 2 ^ 48 → timeOfWire w ≡ R.Value (timeWords (wire w))
 unfolding timeOfWire
-of-wire-out w p = simp (le-ltb (w .seconds) (2 ^ 48) p)
+read-in w p = simp (lt-ltb (w .seconds) (2 ^ 48) p)
+
+pub read-out : (w : WireTimestamp) → 2 ^ 48 ≤ w .seconds → timeOfWire w ≡ R.Seconds
+unfolding timeOfWire
+read-out w p = simp (le-ltb (w .seconds) (2 ^ 48) p)
+
+same-read : (a b : Time) → R.Value a ≡ R.Value b → a ≡ b
+same-read a b e = cc
+
+not-read : (t : Time) → R.Value t ≡ R.Seconds → ⊥
+not-read t e =
+    let y : _≡_ {A = ℕ} 0 1 = cc in
+    omega arith
+
+-- what was read is the time that the timestamp means
+pub read-is : (w : WireTimestamp) (t : Time) → w .nanos < 2 ^ 32 → timeOfWire w ≡ R.Value t → IsTime (wire w) t
+unfolding timeOfWire
+read-is w t q e =
+    let g : (ltb (w .seconds) (2 ^ 48) ≡ true) × (timeWords (wire w) ≡ t) = was-value R.Value R.Seconds same-read not-read (ltb (w .seconds) (2 ^ 48)) (timeWords (wire w)) t e in
+    time-is (wire w) t (time-in (wire w) (wire-in w (ltb-true (w .seconds) (2 ^ 48) (g .0)) q) ∙ ap T.Value (g .1))
+
+pub read-out-is : (w : WireTimestamp) → timeOfWire w ≡ R.Seconds → 2 ^ 48 ≤ w .seconds
+unfolding timeOfWire
+read-out-is w e =
+    ltb-false (w .seconds) (2 ^ 48) (was-refused R.Value R.Seconds same-read not-read (ltb (w .seconds) (2 ^ 48)) (timeWords (wire w)) e)
 
 -- ---- sent
 
@@ -77,18 +102,32 @@ module _ (n : ℕ) where
   unfolding wireOf
   wire-out h = simp (le-ltb (n / 2 ^ 32 / 10 ^ 9) (2 ^ 48) (omega arith))
 
--- what was sent of a whole number of nanoseconds is what was read
-pub wire-back : (w : WireTimestamp) → w .seconds < 2 ^ 48 → w .nanos < 10 ^ 9 → wireOf (wire w) ≡ W.Value w 0
-unfolding wire
-wire-back w p q =
-    wire-sent ((w .seconds * 10 ^ 9 + w .nanos) * 2 ^ 32) (omega arith)
-    ∙ (λ i. W.Value (record { seconds = seconds-are i; nanos = nanos-are i }) (rest-is i))
-  where
-    seconds-are : (w .seconds * 10 ^ 9 + w .nanos) * 2 ^ 32 / 2 ^ 32 / 10 ^ 9 ≡ w .seconds
-    seconds-are = omega arith
+  pub wire-out-is : wireOf (pos n) ≡ W.Out → 2 ^ 48 * 10 ^ 9 * 2 ^ 32 ≤ n
+  unfolding wireOf
+  wire-out-is e =
+      let h : 2 ^ 48 ≤ n / 2 ^ 32 / 10 ^ 9 = ltb-false _ _ (was-refused (λ (x : WireTimestamp × ℕ). W.Value (x .0) (x .1)) W.Out same-sent not-sent short sent e) in
+      omega arith
 
-    nanos-are : (w .seconds * 10 ^ 9 + w .nanos) * 2 ^ 32 / 2 ^ 32 % 10 ^ 9 ≡ w .nanos
-    nanos-are = omega arith
+-- what is sent of a whole number of nanoseconds is what was read
+module _ (w : WireTimestamp) (p : w .seconds < 2 ^ 48) (q : w .nanos < 10 ^ 9) where
+  short-enough : natAbs (wire w) < 2 ^ 48 * 10 ^ 9 * 2 ^ 32
+  unfolding wire
+  short-enough = omega arith
 
-    rest-is : (w .seconds * 10 ^ 9 + w .nanos) * 2 ^ 32 % 2 ^ 32 / 2 ^ 16 ≡ 0
-    rest-is = omega arith
+  seconds-are : natAbs (wire w) / 2 ^ 32 / 10 ^ 9 ≡ w .seconds
+  unfolding wire
+  seconds-are = omega arith
+
+  nanos-are : natAbs (wire w) / 2 ^ 32 % 10 ^ 9 ≡ w .nanos
+  unfolding wire
+  nanos-are = omega (arith, seconds-are)
+
+  rest-is : natAbs (wire w) % 2 ^ 32 / 2 ^ 16 ≡ 0
+  unfolding wire
+  rest-is = omega arith
+
+  pub wire-back : wireOf (wire w) ≡ W.Value w 0
+  unfolding wire
+  wire-back =
+      wire-sent (natAbs (wire w)) short-enough
+      ∙ (λ i. W.Value (record { seconds = seconds-are i; nanos = nanos-are i }) (rest-is i))

@@ -3,8 +3,8 @@
 // of specs/, where meanings stand in ℤ.
 ghost use mathlib.Core.Path.{_≡_};
 ghost use Prim.Native.Nat.{_+_, _*_, _/_, _^_, _≤_};
-ghost use lib.IntN.{pos, subℕ, _+ℤ_, _-ℤ_};
-ghost use Rattle.time.specs.Units.{spelled, time, inTime, timeOf, duration, durationOf, timeOfWire, wireOf, correction, halfOf};
+ghost use lib.IntN.{subℕ, _+ℤ_, _-ℤ_};
+ghost use Rattle.time.specs.Units.{spelled, time, inTime, timeOf, timeOfWords, duration, durationOf, timeOfWire, wireOf, correction, halfOf};
 
 pub mod timer;
 mod words;
@@ -30,16 +30,28 @@ pub struct WireTimestamp {
     pub nanos: u32,
 }
 
-// What a function that gives a time answers: Out where the result has no place among the times.
+// What a sum of a time answers: Out where no time has so many units.
 pub enum TimeAnswer {
     Value(Time),
     Out,
 }
 
-// The same for a duration.
+// What a difference answers: Out where no duration has so many units.
 pub enum DurationAnswer {
     Value(Duration),
     Out,
+}
+
+// Two words as a time, or NoTime where the top bit is set.
+pub enum WordsAnswer {
+    Value(Time),
+    NoTime,
+}
+
+// A timestamp as a time, or Seconds where its seconds have no place in 48 bits.
+pub enum ReadAnswer {
+    Value(Time),
+    Seconds,
 }
 
 // What is sent of a time: its timestamp, and what of the fraction goes into the correction field, in
@@ -62,19 +74,19 @@ impl Time {
     }
 
     // The time of two words, the high one first.
-    pub fn of_words(hi: u64, lo: u64) -> TimeAnswer
-        ensures { λ r. ⌜ r ≡ timeOf (pos (spelled hi lo)) ⌝ }
+    pub fn of_words(hi: u64, lo: u64) -> WordsAnswer
+        ensures { λ r. ⌜ r ≡ timeOfWords hi lo ⌝ }
     {
         let t = Time { hi, lo };
         if t.is_time() {
-            TimeAnswer::Value(t)
+            WordsAnswer::Value(t)
         } else {
-            TimeAnswer::Out
+            WordsAnswer::NoTime
         }
     }
 
     // The time that a timestamp means.
-    pub fn of_wire(w: WireTimestamp) -> TimeAnswer
+    pub fn of_wire(w: WireTimestamp) -> ReadAnswer
         ensures { λ r. ⌜ r ≡ timeOfWire w ⌝ }
     {
         let seconds = w.seconds;
@@ -85,9 +97,9 @@ impl Time {
             let low = seconds % 0x1_0000_0000 * 1_000_000_000 + nanos as u64;
             let hi = seconds / 0x1_0000_0000 * 1_000_000_000 + low / 0x1_0000_0000;
             let lo = low % 0x1_0000_0000 * 0x1_0000_0000;
-            TimeAnswer::Value(Time { hi, lo })
+            ReadAnswer::Value(Time { hi, lo })
         } else {
-            TimeAnswer::Out
+            ReadAnswer::Seconds
         }
     }
 
@@ -177,8 +189,13 @@ fn checked_time(w: Wide, up: u64, down: u64) -> TimeAnswer
     requires { ⌜ (up ≤ 1) × (down ≤ 1) ⌝ }
     ensures { λ r. ⌜ r ≡ timeOf (subℕ (spelled (w .hi) (w .lo) + up * 2 ^ 128) (down * 2 ^ 128)) ⌝ }
 {
+    let t = Time { hi: w.hi, lo: w.lo };
     if up == down {
-        Time::of_words(w.hi, w.lo)
+        if t.is_time() {
+            TimeAnswer::Value(t)
+        } else {
+            TimeAnswer::Out
+        }
     } else {
         TimeAnswer::Out
     }

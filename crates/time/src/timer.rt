@@ -4,7 +4,7 @@ ghost use mathlib.Core.Path.{_≡_};
 ghost use Prim.Native.Nat.{_+_, _*_, _^_, _≤_, _<_};
 ghost use mathlib.Core.Bool.{true};
 ghost use lib.IntN.{pos, natAbs, _-ℤ_};
-ghost use Rattle.time.specs.Timers.{interval, inInterval, toNearest, syncTimerOf, delayTimerOf};
+ghost use Rattle.time.specs.Timers.{interval, inInterval, inDraw, oddOf, toNearest, syncTimerOf, delayTimerOf};
 
 // A timer, or what is out of its limits: the log interval, or else the draw.
 pub enum TimerAnswer {
@@ -18,6 +18,13 @@ pub fn is_interval(n: u8) -> bool
     ensures { λ r. ⌜ r ≡ inInterval (interval n) ⌝ }
 {
     if n < 128 { n <= 16 } else { 247 <= n }
+}
+
+// Whether a draw is below 2^52.
+pub fn is_draw(k: u64) -> bool
+    ensures { λ r. ⌜ r ≡ inDraw k ⌝ }
+{
+    k < 0x10_0000_0000_0000
 }
 
 // 17 less the log interval.
@@ -49,7 +56,7 @@ pub fn sync_timer(n: u8) -> TimerAnswer
 // The draw k at 2^(n - 52) seconds, to the nearest nanosecond, where shift is 17 - n.
 fn drawn(k: u64, shift: u64) -> u64
     requires { ⌜ (k < 2 ^ 52) × (1 ≤ shift) × (shift ≤ 26) ⌝ }
-    ensures { λ r. ⌜ r ≡ toNearest ((2 * k + 1) * 10 ^ 9) (2 ^ (shift + 35)) ⌝ }
+    ensures { λ r. ⌜ r ≡ toNearest (oddOf k * 10 ^ 9) (2 ^ (shift + 35)) ⌝ }
 {
     let odd = 2 * k + 1;
     // odd * 5^9 / 2^26: the product itself has no place in 64 bits
@@ -64,7 +71,7 @@ pub fn delay_timer(n: u8, k: u64) -> TimerAnswer
     ensures { λ r. ⌜ r ≡ delayTimerOf n k ⌝ }
 {
     if is_interval(n) {
-        if k < 0x10_0000_0000_0000 {
+        if is_draw(k) {
             TimerAnswer::Value(drawn(k, shift_of(n)))
         } else {
             TimerAnswer::Draw

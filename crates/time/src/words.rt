@@ -2,6 +2,7 @@
 // above the high word. The equations are exact, so nothing is lost to wrapping.
 ghost use mathlib.Core.Path.{_≡_};
 ghost use Prim.Native.Nat.{_+_, _*_, _^_, _≤_};
+ghost use Rattle.time.specs.Units.{spelled};
 
 // One digit of a result, and what it carries to the next digit or borrows from it: 0 or 1.
 struct Digit {
@@ -65,7 +66,7 @@ fn sub_digit(a: u64, b: u64, borrow: u64) -> Digit
 
 // a + b.
 pub(crate) fn add(a_hi: u64, a_lo: u64, b_hi: u64, b_lo: u64) -> Wide
-    ensures { λ r. ⌜ (r .hi * 2 ^ 64 + r .lo + r .carry * 2 ^ 128 ≡ («a_hi» * 2 ^ 64 + «a_lo») + («b_hi» * 2 ^ 64 + «b_lo»)) × (r .carry ≤ 1) ⌝ }
+    ensures { λ r. ⌜ (spelled (r .hi) (r .lo) + r .carry * 2 ^ 128 ≡ spelled «a_hi» «a_lo» + spelled «b_hi» «b_lo») × (r .carry ≤ 1) ⌝ }
 {
     let low = add_digit(a_lo, b_lo, 0);
     let high = add_digit(a_hi, b_hi, low.carry);
@@ -78,7 +79,7 @@ pub(crate) fn add(a_hi: u64, a_lo: u64, b_hi: u64, b_lo: u64) -> Wide
 
 // a - b.
 pub(crate) fn sub(a_hi: u64, a_lo: u64, b_hi: u64, b_lo: u64) -> Wide
-    ensures { λ r. ⌜ (r .hi * 2 ^ 64 + r .lo + («b_hi» * 2 ^ 64 + «b_lo») ≡ «a_hi» * 2 ^ 64 + «a_lo» + r .carry * 2 ^ 128) × (r .carry ≤ 1) ⌝ }
+    ensures { λ r. ⌜ (spelled (r .hi) (r .lo) + spelled «b_hi» «b_lo» ≡ spelled «a_hi» «a_lo» + r .carry * 2 ^ 128) × (r .carry ≤ 1) ⌝ }
 {
     let low = sub_digit(a_lo, b_lo, 0);
     let high = sub_digit(a_hi, b_hi, low.carry);

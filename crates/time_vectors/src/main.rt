@@ -6,10 +6,12 @@ use libc::STDIN_FILENO;
 use libc::STDOUT_FILENO;
 use time::Duration;
 use time::DurationAnswer;
+use time::ReadAnswer;
 use time::Time;
 use time::TimeAnswer;
 use time::WireAnswer;
 use time::WireTimestamp;
+use time::WordsAnswer;
 use time::timer;
 use time::timer::TimerAnswer;
 ghost use Prim.Native.Nat.{_+_, _≤_, _<_};
@@ -70,6 +72,21 @@ fn tell_time(r: TimeAnswer) {
     }
 }
 
+// The words are taken as an event's time.
+fn tell_words(r: WordsAnswer) {
+    match r {
+        WordsAnswer::Value(t) => both(t.hi, t.lo),
+        WordsAnswer::NoTime => number(3),
+    }
+}
+
+fn tell_read(r: ReadAnswer) {
+    match r {
+        ReadAnswer::Value(t) => both(t.hi, t.lo),
+        ReadAnswer::Seconds => number(5),
+    }
+}
+
 fn tell_duration(r: DurationAnswer) {
     match r {
         DurationAnswer::Value(d) => both(d.hi, d.lo),
@@ -111,8 +128,8 @@ fn ask(letter: u8, w: Words) {
     let two = Duration { hi: w.c, lo: w.d };
     match letter {
         b'i' => number(first.is_time() as u64),
-        b'w' => tell_time(Time::of_words(w.a, w.b)),
-        b'r' => tell_time(Time::of_wire(WireTimestamp {
+        b'w' => tell_words(Time::of_words(w.a, w.b)),
+        b'r' => tell_read(Time::of_wire(WireTimestamp {
             seconds: w.a,
             nanos: (w.b % 0x1_0000_0000) as u32,
         })),
@@ -125,6 +142,8 @@ fn ask(letter: u8, w: Words) {
             let half = one.half();
             both(half.hi, half.lo);
         }
+        b'n' => number(timer::is_interval((w.a % 256) as u8) as u64),
+        b'k' => number(timer::is_draw(w.b) as u64),
         b'y' => tell_timer(timer::sync_timer((w.a % 256) as u8)),
         b'z' => tell_timer(timer::delay_timer((w.a % 256) as u8, w.b)),
         _ => number(5),

@@ -1,8 +1,6 @@
 -- `Duration::half`: the words moved down by a bit round down; below zero the bit that fell off is added.
 use Prim.Native.Nat.{ℕ, _+_, _*_, _/_, _%_, _^_, _≤_, _<_, zero-le}
-use mathlib.Core.Path.{_≡_, refl, sym, ap, _∙_, subst}
-use native.Mathlib.Nat.{add-comm}
-use lib.Arith.{digits-lt}
+use mathlib.Core.Path.{_≡_, refl, sym, ap, _∙_}
 use native.Mathlib.Omega.{arith}
 use native.Mathlib.Decide.{decLt}
 use lib.Dec.{lit<}
@@ -20,12 +18,14 @@ use Rattle.time.proofs.Duration.half.Tie as tie
 mul-passed : tie.Need-mul-passed
 mul-passed c = search needs
 
+sum-fits : (x l : ℕ) → x ≤ 2 ^ 63 → l < 2 ^ 64 → l / 2 + x < 2 ^ 64
+sum-fits x l p q = omega arith
+
 low-fits : (h l : ℕ) → l < 2 ^ 64 → l / 2 + h % 2 * 2 ^ 63 < 2 ^ 64
-low-fits h l p =
-    subst (λ (x : ℕ). x < 2 ^ 64) (add-comm (h % 2 * 2 ^ 63) (l / 2)) (digits-lt {q = h % 2} {m = 2} {r = l / 2} {c = 2 ^ 63} (omega arith) (omega arith))
+low-fits h l p = sum-fits (h % 2 * 2 ^ 63) l (omega arith) p
 
 add-low : tie.Need-add-low
-add-low c = record { fits = low-fits (c .args .self .hi) (c .args .self .lo) (omega (arith, c .good)) }
+add-low c = record { fits = sum-fits _ (c .args .self .lo) (omega arith) (omega (arith, c .good)) }
 
 add-high : tie.Need-add-high
 add-high c = search needs

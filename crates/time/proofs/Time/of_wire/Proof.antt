@@ -1,11 +1,12 @@
 -- `Time::of_wire`: the product is worked out in parts below 2 ^ 64, and spells the timestamp's units.
-use Prim.Native.Nat.{ℕ, _+_, _*_, _/_, _%_, _^_, _<_}
+use Prim.Native.Nat.{ℕ, _+_, _*_, _/_, _%_, _^_}
 use mathlib.Core.Path.{_≡_, sym, ap, _∙_}
 use native.Mathlib.Omega.{arith}
 use lib.IntN.{pos}
-use Rattle.time.specs.Units.{spelled, timeOf, wire}
-use Rattle.time.specs.WireLaws.{of-wire-in, of-wire-out}
-use Rattle.time.proofs.Checked.{time-fits}
+use Rattle.time.specs.declared.ReadAnswer.the-variants as R
+use Rattle.time.specs.Units.{spelled, timeWords, wire}
+use Rattle.time.specs.WireLaws.{read-in, read-out}
+use Rattle.time.proofs.Checked.{words-are}
 use borrow.Author.Needs.{needs}
 use Rattle.time.proofs.Time.of_wire.Statement.{statement}
 use Rattle.time.proofs.Time.of_wire.Tie as tie
@@ -32,19 +33,17 @@ mul-lo c = search needs
 units : (s n : ℕ) → spelled (s / 2 ^ 32 * 10 ^ 9 + (s % 2 ^ 32 * 10 ^ 9 + n) / 2 ^ 32) ((s % 2 ^ 32 * 10 ^ 9 + n) % 2 ^ 32 * 2 ^ 32) ≡ (s * 10 ^ 9 + n) * 2 ^ 32
 units s n = omega arith
 
-small : (s n : ℕ) → s < 2 ^ 48 → n < 2 ^ 32 → s / 2 ^ 32 * 10 ^ 9 + (s % 2 ^ 32 * 10 ^ 9 + n) / 2 ^ 32 < 2 ^ 63
-small s n p q = omega arith
-
 returns : tie.Need-returns
 unfolding wire
 returns c =
     let w = c .before .args .w in
     sym
-    (of-wire-in w (omega (arith, c .if1 .taken)) ∙ ap (λ (n : ℕ). timeOf (pos n)) (sym (units (w .seconds) (w .nanos)))
-    ∙ time-fits _ _ (small (w .seconds) (w .nanos) (omega (arith, c .if1 .taken)) (omega (arith, c .before .good))) (omega arith))
+    (read-in w (omega (arith, c .if1 .taken))
+    ∙ ap (λ (n : ℕ). R.Value (timeWords (pos n))) (sym (units (w .seconds) (w .nanos)))
+    ∙ ap R.Value (words-are _ _ (omega arith)))
 
 returns-2 : tie.Need-returns-2
-returns-2 c = sym (of-wire-out (c .before .args .w) (omega (arith, c .if1 .left)))
+returns-2 c = sym (read-out (c .before .args .w) (omega (arith, c .if1 .left)))
 
 pub of-wire-spec : {M : Type 1} → statement M
 of-wire-spec = tie.close (tie.spec mul-low cast-low add-low mul-hi add-hi mul-lo returns returns-2)
