@@ -6,15 +6,14 @@ use native.Mathlib.Decide.{decLt}
 use native.Mathlib.Nat.{add-zero, le-trans, le-add-left}
 use lib.Arith.{comp-ge}
 use lib.Dec.{ltb, lit≤}
-use lib.Pow.{high, low}
 use lib.IntN.{ℤ, pos, negsuc, subℕ}
 use borrow.Author.Tests.{lt-ltb, le-ltb}
 use Rattle.time.specs.declared.TimeAnswer.the-variants as T
 use Rattle.time.specs.declared.Duration.{Duration}
 use Rattle.time.specs.declared.DurationAnswer.the-variants as D
-use Rattle.time.specs.Units.{spelled, inTime, timeWords, timeOf, signed, duration, durationOf}
-use Rattle.time.specs.Laws.{not-below, in-time, not-below-zero, time-out, below-half, from-half, below-whole, in-duration, duration-out, duration-back, signed-low, signed-high}
-use Rattle.time.specs.Lemmas.Integers.{sub-lt, sub-eq, pos-sub}
+use Rattle.time.specs.Units.{spelled, inTime, timeOf, signed, duration, durationOf}
+use Rattle.time.specs.Laws.{in-time, not-below-zero, time-out, below-half, from-half, below-whole, in-duration, duration-out, duration-back, signed-low, signed-high}
+use Rattle.time.specs.Lemmas.Integers.{not-below, sub-lt, sub-eq, pos-sub}
 use Rattle.time.proofs.Digits.{no-top, one-top}
 
 module _ (h l : ℕ) (hh : h < 2 ^ 64) (hl : l < 2 ^ 64) where
@@ -94,7 +93,3 @@ module _ (h l : ℕ) (hh : h < 2 ^ 64) (hl : l < 2 ^ 64) where
       go (no p) =
           let q : 2 ^ 63 ≤ h = not-below h (2 ^ 63) p in
           le-ltb h (2 ^ 63) q ∙ sym (in-time n ∙ le-ltb n (2 ^ 127) (from-half h l q))
-
--- two words with no top bit are those of their units
-pub words-are : (h l : ℕ) → l < 2 ^ 64 → timeWords (pos (spelled h l)) ≡ record { hi = h; lo = l }
-words-are h l q = λ i. record { hi = high h 64 q i; lo = low h 64 q i }

@@ -32,6 +32,3 @@ no-top h p = omega arith
 
 pub one-top : (h : ℕ) → 2 ^ 63 ≤ h → h < 2 ^ 64 → h / 2 ^ 63 ≡ 1
 one-top h p q = omega arith
-
-pub top-le : (h : ℕ) → h < 2 ^ 64 → h / 2 ^ 63 ≤ 1
-top-le h p = omega arith

@@ -16,7 +16,7 @@ use Rattle.time.specs.declared.TimeAnswer.the-variants as T
 use Rattle.time.specs.declared.Duration.{Duration}
 use Rattle.time.specs.declared.DurationAnswer.the-variants as D
 use Rattle.time.specs.Units.{spelled, time, inTime, timeWords, timeOf, signed, duration, inDuration, spelling, durationWords, durationOf, half, halfOf}
-use Rattle.time.specs.Lemmas.Integers.{sub-ge, sub-lt, pos-minus}
+use Rattle.time.specs.Lemmas.Integers.{not-below, sub-ge, sub-lt, pos-minus}
 
 -- An answer that a test picks, a value or a refusal: what was answered tells the test.
 module _ {X A : Type 0} (value : X → A) (out : A) (same : (v w : X) → value v ≡ value w → v ≡ w) (differ : (v : X) → value v ≡ out → ⊥) where
@@ -98,24 +98,18 @@ from-half h l p = le-trans (mul-le-mul-right (2 ^ 64) p) (le-add-right (h * 2 ^ 
 pub below-whole : (h l : ℕ) → h < 2 ^ 64 → l < 2 ^ 64 → spelled h l < 2 ^ 128
 below-whole h l p q = digits-lt {q = h} {m = 2 ^ 64} {r = l} {c = 2 ^ 64} p q
 
--- the time of a time's units is that time, so two times of as many units are one
+-- the words of a time's units are that time, so two times of as many units are one
+pub time-words-back : (h l : ℕ) → l < 2 ^ 64 → timeWords (pos (spelled h l)) ≡ record { hi = h; lo = l }
+time-words-back h l q = λ i. record { hi = high h 64 q i; lo = low h 64 q i }
+
 pub time-back : (t : Time) → t .lo < 2 ^ 64 → inTime (time t) ≡ true → timeOf (time t) ≡ T.Value t
 unfolding time
-time-back t q h =
-    time-in (pos (spelled (t .hi) (t .lo))) h ∙ ap T.Value (λ i. record { hi = high (t .hi) 64 q i; lo = low (t .hi) 64 q i })
+time-back t q h = time-in (time t) h ∙ ap T.Value (time-words-back (t .hi) (t .lo) q)
 
 pub time-unique : (a b : Time) → a .lo < 2 ^ 64 → b .lo < 2 ^ 64 → time a ≡ time b → a ≡ b
 unfolding time
-time-unique a b p q e = λ i. record { hi = his i; lo = los i }
-  where
-    same : spelled (a .hi) (a .lo) ≡ spelled (b .hi) (b .lo)
-    same = cc
-
-    his : a .hi ≡ b .hi
-    his = sym (high (a .hi) 64 p) ∙ ap (λ (n : ℕ). n / 2 ^ 64) same ∙ high (b .hi) 64 q
-
-    los : a .lo ≡ b .lo
-    los = sym (low (a .hi) 64 p) ∙ ap (λ (n : ℕ). n % 2 ^ 64) same ∙ low (b .hi) 64 q
+time-unique a b p q e =
+    sym (time-words-back (a .hi) (a .lo) p) ∙ ap timeWords e ∙ time-words-back (b .hi) (b .lo) q
 
 -- ---- durations
 
@@ -141,9 +135,6 @@ signed-low bits n h = simp (lt-ltb n (2 ^ (bits - 1)) h)
 pub signed-high : (bits n : ℕ) → 2 ^ (bits - 1) ≤ n → signed bits n ≡ subℕ n (2 ^ bits)
 unfolding signed
 signed-high bits n h = simp (le-ltb n (2 ^ (bits - 1)) h) (pos-minus n (2 ^ bits))
-
-pub not-below : (a b : ℕ) → (a < b → ⊥) → b ≤ a
-not-below a b h = omega arith
 
 duration-words : (z : ℤ) → inDuration z ≡ true → duration (durationWords z) ≡ z
 unfolding duration

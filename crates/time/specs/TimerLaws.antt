@@ -32,11 +32,22 @@ pub in-high : (m : ℕ) → inInterval (negsuc m) ≡ leb m 8
 unfolding inInterval
 in-high m = and-true (leb m 8)
 
+-- so an interval that is taken is at most 16, and at least -9
+pub low-end : (n : ℕ) → inInterval (pos n) ≡ true → n ≤ 16
+low-end n h = leb-true n 16 (sym (in-low n) ∙ h)
+
+pub high-end : (m : ℕ) → inInterval (negsuc m) ≡ true → m ≤ 8
+high-end m h = leb-true m 8 (sym (in-high m) ∙ h)
+
 pub in-draw : (k : ℕ) → inDraw k ≡ ltb k (2 ^ 52)
 unfolding inDraw
 in-draw k = sym (leb·suc-suc k (2 ^ 52 - 1))
 
--- 52 - n, as what is left of it above 36
+-- 52 - n, for n not negative (for -(m + 1) it is 52 + (m + 1) by computing)
+pub less-52 : (n : ℕ) → n ≤ 16 → natAbs (pos 52 -ℤ pos n) ≡ 52 - n
+less-52 n h = ap natAbs (pos-minus 52 n ∙ sub-ge 52 n (omega arith))
+
+-- as what is left of it above 36
 above-36 : ℤ → ℕ
 above-36 (pos n) = 16 - n
 above-36 (negsuc m) = 16 + suc m
@@ -44,8 +55,8 @@ above-36 (negsuc m) = 16 + suc m
 exponent : (n : ℤ) → inInterval n ≡ true → natAbs (pos 52 -ℤ n) ≡ above-36 n + 36
 unfolding above-36
 exponent (pos n) h =
-    let le : n ≤ 16 = leb-true n 16 (sym (in-low n) ∙ h) in
-    ap natAbs (pos-minus 52 n ∙ sub-ge 52 n (omega arith)) ∙ omega arith
+    let le : n ≤ 16 = low-end n h in
+    less-52 n le ∙ omega arith
 exponent (negsuc m) h = omega arith
 
 -- ---- the sync timer
@@ -62,7 +73,7 @@ shifted e m h = ap (λ (x : ℕ). x / 2 ^ suc m) (scaled e m h) ∙ mul-div-canc
 pub sync-exact : (m : ℕ) → inInterval (negsuc m) ≡ true → syncTimer (negsuc m) * 2 ^ suc m ≡ 10 ^ 9
 unfolding syncTimer
 sync-exact m h =
-    let le : m ≤ 8 = leb-true m 8 (sym (in-high m) ∙ h) in
+    let le : m ≤ 8 = high-end m h in
     let product : 10 ^ 9 ≡ 2 ^ (8 - m) * 1953125 * 2 ^ suc m = scaled (8 - m) m (omega arith) in
     ap (λ (x : ℕ). x * 2 ^ suc m) (shifted (8 - m) m (omega arith)) ∙ sym product
 
@@ -111,11 +122,12 @@ quotient-near a d q l h e k whole = record { above = over (decLt 0 l) (decLt 0 q
         let zero-q : q ≡ 0 = omega arith in
         absurd (omega (arith, ap (λ (x : ℕ). x * (2 * d)) zero-q))
 
+-- `toNearest` is that quotient
 pub to-nearest-near : (a d : ℕ) → 0 < d → ((m : ℕ) → 2 * a ≡ (2 * m + 1) * d → ⊥) → Near a d (toNearest a d)
 to-nearest-near a d h whole =
     quotient-near a d (toNearest a d) ((2 * a + d) % (2 * d)) h (div-add-mod' (2 * a + d) (2 * d)) (mod-lt (2 * a + d) (omega arith)) whole
 
--- and the delay timer never is one
+-- and a delay timer is never an exact half, so it is the one whole number less than half a nanosecond away
 pub delay-near : (n : ℤ) (k : ℕ) → inInterval n ≡ true → Near (oddOf k * 10 ^ 9) (2 ^ natAbs (pos 52 -ℤ n)) (delayTimer n k)
 unfolding delayTimer
 delay-near n k h =

@@ -71,7 +71,7 @@ durationWords z = record { hi = spelling z / 2 ^ 64; lo = spelling z % 2 ^ 64 }
 unfoldable pub durationOf : ℤ → DurationAnswer
 durationOf z = cond (inDuration z) (D.Value (durationWords z)) D.Out
 
--- ---- a wire timestamp: 48-bit seconds, 32-bit nanoseconds; 10 ^ 9 nanoseconds or more count as the number they are
+-- ---- a wire timestamp: 48-bit seconds, 32-bit nanoseconds (IEEE 1588-2019, 5.3.3); 10 ^ 9 nanoseconds or more count as the number they are
 
 unfoldable pub wire : WireTimestamp → ℤ
 wire w = pos ((w .seconds * 10 ^ 9 + w .nanos) * 2 ^ 32)
@@ -90,7 +90,7 @@ wireOf (pos n) =
     W.Out
 wireOf (negsuc n) = W.Out
 
--- ---- a correction field c: signed, 64 bits, 2 ^ -16 ns, so c × 65,536 units
+-- ---- a correction field c: signed, 64 bits, 2 ^ -16 ns (IEEE 1588-2019, 5.3.2), so c × 65,536 units
 
 unfoldable pub correction : ℕ → ℤ
 correction c = signed 64 c *ℤ pos 65536

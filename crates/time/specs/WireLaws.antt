@@ -1,19 +1,19 @@
 -- Laws of wire timestamps, for callers to cite: which are taken, what a time becomes when it is sent, and that what is read of it is the time cut to 16 bits of a nanosecond.
 use mathlib.Core.Path.{_≡_, ap, _∙_, subst}
 use mathlib.Core.Bool.{Bool, true}
-use Prim.Native.Nat.{ℕ, _+_, _*_, _/_, _%_, _^_, _<_, _≤_}
+use Prim.Native.Nat.{ℕ, _*_, _/_, _%_, _^_, _<_, _≤_}
 use native.Mathlib.Omega.{arith}
 use native.Mathlib.Nat.{mod-lt, lt-trans}
 use lib.Dec.{ltb, lit<}
-use lib.IntN.{pos, natAbs}
+use lib.IntN.{ℤ, pos, natAbs, _+ℤ_, _*ℤ_}
 use borrow.Author.Tests.{lt-ltb, le-ltb, ltb-true, ltb-false}
 use Rattle.time.specs.declared.WireTimestamp.{WireTimestamp}
 use Rattle.time.specs.declared.TimeAnswer.the-variants as T
 use Rattle.time.specs.declared.Time.{Time}
 use Rattle.time.specs.declared.ReadAnswer.the-variants as R
 use Rattle.time.specs.declared.WireAnswer.the-variants as W
-use Rattle.time.specs.Units.{inTime, timeWords, wire, timeOfWire, wireOf}
-use Rattle.time.specs.Laws.{was-value, was-refused, in-time, IsTime, time-is, time-in}
+use Rattle.time.specs.Units.{inTime, timeWords, wire, timeOfWire, wireOf, correction}
+use Rattle.time.specs.Laws.{was-value, was-refused, in-time, signed-low, IsTime, time-is, time-in}
 
 -- ---- read
 
@@ -58,12 +58,12 @@ read-out-is w e =
 
 -- ---- sent
 
--- what a time of n units is sent as: below a second of nanoseconds, and with the fraction f all of n but its last 16 bits
+-- what a time of n units is sent as: nanoseconds below a second, and f, which as a correction makes up all of n but its last 16 bits
 pub record Sent (n : ℕ) (w : WireTimestamp) (f : ℕ) : Type 0 where
   pub seconds : w .seconds < 2 ^ 48
   pub nanos : w .nanos < 10 ^ 9
   pub fraction : f < 2 ^ 16
-  pub cut : (w .seconds * 10 ^ 9 + w .nanos) * 2 ^ 32 + f * 2 ^ 16 ≡ n / 2 ^ 16 * 2 ^ 16
+  pub cut : wire w +ℤ correction f ≡ pos (n / 2 ^ 16 * 2 ^ 16)
 
 same-sent : (a b : WireTimestamp × ℕ) → W.Value (a .0) (a .1) ≡ W.Value (b .0) (b .1) → a ≡ b
 same-sent a b e =
@@ -83,15 +83,21 @@ module _ (n : ℕ) where
   abbrev short : Bool
   short = ltb (n / 2 ^ 32 / 10 ^ 9) (2 ^ 48)
 
-  whole : (n / 2 ^ 32 / 10 ^ 9 * 10 ^ 9 + n / 2 ^ 32 % 10 ^ 9) * 2 ^ 32 + n % 2 ^ 32 / 2 ^ 16 * 2 ^ 16 ≡ n / 2 ^ 16 * 2 ^ 16
-  whole = omega arith
+  small-fraction : sent .1 < 2 ^ 16
+  small-fraction = omega arith
+
+  whole : wire (sent .0) +ℤ correction (sent .1) ≡ pos (n / 2 ^ 16 * 2 ^ 16)
+  unfolding wire correction
+  whole =
+      ap (λ (z : ℤ). wire (sent .0) +ℤ z *ℤ pos 65536) (signed-low 64 (sent .1) (lt-trans small-fraction (lit< tt)))
+      ∙ ap pos (omega arith)
 
   pub wire-is : (w : WireTimestamp) (f : ℕ) → wireOf (pos n) ≡ W.Value w f → Sent n w f
   unfolding wireOf
   wire-is w f e =
       let g : (short ≡ true) × (sent ≡ (w, f)) = was-value (λ (x : WireTimestamp × ℕ). W.Value (x .0) (x .1)) W.Out same-sent not-sent short sent (w, f) e in
       subst (λ (x : WireTimestamp × ℕ). Sent n (x .0) (x .1)) (g .1)
-      record { seconds = ltb-true _ _ (g .0); nanos = mod-lt _ (lit< tt); fraction = omega arith; cut = whole }
+      record { seconds = ltb-true _ _ (g .0); nanos = mod-lt _ (lit< tt); fraction = small-fraction; cut = whole }
 
   -- a time is refused from 2 ^ 48 seconds on, and only there
   pub wire-sent : n < 2 ^ 48 * 10 ^ 9 * 2 ^ 32 → wireOf (pos n) ≡ W.Value (sent .0) (sent .1)

@@ -53,7 +53,7 @@ pub fn sync_timer(n: u8) -> TimerAnswer
     }
 }
 
-// The draw k at 2^(n - 52) seconds, to the nearest nanosecond, where shift is 17 - n.
+// The delay timer by a shift that is 17 less the log interval.
 fn drawn(k: u64, shift: u64) -> u64
     requires { ⌜ (k < 2 ^ 52) × (1 ≤ shift) × (shift ≤ 26) ⌝ }
     ensures { λ r. ⌜ r ≡ toNearest (oddOf k * 10 ^ 9) (2 ^ (shift + 35)) ⌝ }

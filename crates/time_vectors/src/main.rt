@@ -1,7 +1,8 @@
 // Puts stored questions to crate time and writes an answer a line, to be compared with answers that
 // were worked out elsewhere. A question is a line of 70 bytes: a letter, then four words of 16
 // hexadecimal digits with a space before each. An answer is the letter, the number of document 01's
-// table, and the values in hexadecimal, the two words of a time or a duration side by side.
+// table, and the values in hexadecimal, the two words of a time or a duration side by side; to a
+// question of yes or no it is 1 or 0, and to a letter that asks nothing a question mark.
 use libc::STDIN_FILENO;
 use libc::STDOUT_FILENO;
 use time::Duration;
@@ -120,6 +121,10 @@ fn tell_timer(r: TimerAnswer) {
     }
 }
 
+fn unknown() {
+    io::write_all(STDOUT_FILENO, b" ?");
+}
+
 // One function of crate time by its letter, on the words that it takes.
 fn ask(letter: u8, w: Words) {
     let first = Time { hi: w.a, lo: w.b };
@@ -146,7 +151,7 @@ fn ask(letter: u8, w: Words) {
         b'k' => number(timer::is_draw(w.b) as u64),
         b'y' => tell_timer(timer::sync_timer((w.a % 256) as u8)),
         b'z' => tell_timer(timer::delay_timer((w.a % 256) as u8, w.b)),
-        _ => number(5),
+        _ => unknown(),
     }
 }
 

@@ -8,6 +8,9 @@ use borrow.Author.Tests.{lt-ltb, le-ltb}
 use lib.Signed.{quotZ}
 use lib.IntN.{ℤ, pos, negsuc, negℤ, subℕ, _+ℤ_, _-ℤ_, _*ℤ_}
 
+pub not-below : (a b : ℕ) → (a < b → ⊥) → b ≤ a
+not-below a b h = omega arith
+
 pub sub-ge : (a b : ℕ) → b ≤ a → subℕ a b ≡ pos (a - b)
 sub-ge a b h = simp (le-ltb a b h)
 

@@ -6,7 +6,7 @@ use lib.IntN.{pos}
 use Rattle.time.specs.declared.ReadAnswer.the-variants as R
 use Rattle.time.specs.Units.{spelled, timeWords, wire}
 use Rattle.time.specs.WireLaws.{read-in, read-out}
-use Rattle.time.proofs.Checked.{words-are}
+use Rattle.time.specs.Laws.{time-words-back}
 use borrow.Author.Needs.{needs}
 use Rattle.time.proofs.Time.of_wire.Statement.{statement}
 use Rattle.time.proofs.Time.of_wire.Tie as tie
@@ -40,7 +40,7 @@ returns c =
     sym
     (read-in w (omega (arith, c .if1 .taken))
     ∙ ap (λ (n : ℕ). R.Value (timeWords (pos n))) (sym (units (w .seconds) (w .nanos)))
-    ∙ ap R.Value (words-are _ _ (omega arith)))
+    ∙ ap R.Value (time-words-back _ _ (omega arith)))
 
 returns-2 : tie.Need-returns-2
 returns-2 c = sym (read-out (c .before .args .w) (omega (arith, c .if1 .left)))

@@ -3,22 +3,20 @@ use Prim.Native.Nat.{ℕ, suc, _-_, _≤_, _<_}
 use mathlib.Core.Path.{_≡_, sym, ap, _∙_}
 use mathlib.Core.Bool.{true}
 use native.Mathlib.Omega.{arith}
-use borrow.Author.Tests.{leb-true}
 use lib.IntN.{ℤ, pos, natAbs, _-ℤ_}
 use Rattle.time.specs.Timers.{interval, inInterval}
-use Rattle.time.specs.TimerLaws.{interval-low, interval-high, in-low, in-high}
-use Rattle.time.specs.Lemmas.Integers.{sub-ge, pos-minus}
+use Rattle.time.specs.TimerLaws.{interval-low, interval-high, low-end, high-end, less-52}
 use borrow.Author.Needs.{needs}
 use Rattle.time.proofs.timer.shift_of.Statement.{statement}
 use Rattle.time.proofs.timer.shift_of.Tie as tie
 
 -- the two ends of the limits
 at-most : (n : ℕ) → n < 128 → inInterval (interval n) ≡ true → n ≤ 16
-at-most n p h = leb-true n 16 (sym (ap inInterval (interval-low n p) ∙ in-low n) ∙ h)
+at-most n p h = low-end n (sym (ap inInterval (interval-low n p)) ∙ h)
 
 at-least : (n : ℕ) → 128 ≤ n → n < 256 → inInterval (interval n) ≡ true → 247 ≤ n
 at-least n p q h =
-    let e : 256 - suc n ≤ 8 = leb-true (256 - suc n) 8 (sym (ap inInterval (interval-high n p q) ∙ in-high (256 - suc n)) ∙ h) in
+    let e : 256 - suc n ≤ 8 = high-end (256 - suc n) (sym (ap inInterval (interval-high n p q)) ∙ h) in
     omega arith
 
 sub-result : tie.Need-sub-result
@@ -33,7 +31,7 @@ returns : tie.Need-returns
 returns c =
     let n = c .before .args .n in
     let small : n ≤ 16 = at-most n (c .if1 .taken) (c .before .pre) in
-    (sym (ap (λ (z : ℤ). natAbs (pos 52 -ℤ z)) (interval-low n (c .if1 .taken)) ∙ ap natAbs (pos-minus 52 n ∙ sub-ge 52 n (omega arith)) ∙ omega arith), omega arith, omega arith)
+    (sym (ap (λ (z : ℤ). natAbs (pos 52 -ℤ z)) (interval-low n (c .if1 .taken)) ∙ less-52 n small ∙ omega arith), omega arith, omega arith)
 
 returns-2 : tie.Need-returns-2
 returns-2 c =

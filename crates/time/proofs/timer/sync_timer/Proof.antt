@@ -4,14 +4,12 @@ use mathlib.Core.Path.{_≡_, sym, ap, _∙_}
 use mathlib.Core.Bool.{true}
 use native.Mathlib.Omega.{arith}
 use native.Mathlib.Nat.{mul-comm}
-use borrow.Author.Tests.{leb-true}
 use lib.Dec.{lit<}
 use lib.IntN.{ℤ, pos, negsuc, natAbs, _-ℤ_}
 use lib.Pow.{pow-add, shl-exact}
 use Rattle.time.specs.declared.timer.TimerAnswer.the-variants.{Value}
 use Rattle.time.specs.Timers.{interval, inInterval, syncTimer}
-use Rattle.time.specs.TimerLaws.{sync-in, sync-out, in-low, in-high, shifted}
-use Rattle.time.specs.Lemmas.Integers.{sub-ge, pos-minus}
+use Rattle.time.specs.TimerLaws.{sync-in, sync-out, low-end, high-end, less-52, shifted}
 use borrow.Author.Needs.{needs}
 use Rattle.time.proofs.timer.sync_timer.Statement.{statement}
 use Rattle.time.proofs.timer.sync_timer.Tie as tie
@@ -36,12 +34,12 @@ up-to s e h k =
 seconds : (n : ℤ) (s : ℕ) → inInterval n ≡ true → s ≤ 26 → s + 35 ≡ natAbs (pos 52 -ℤ n) → (1953125 * 2 ^ (26 - s)) % 2 ^ 64 ≡ syncTimer n
 unfolding syncTimer
 seconds (pos n) s h k e =
-    let le : n ≤ 16 = leb-true n 16 (sym (in-low n) ∙ h) in
-    let is : s + 35 ≡ 52 - n = e ∙ ap natAbs (pos-minus 52 n ∙ sub-ge 52 n (omega arith)) in
+    let le : n ≤ 16 = low-end n h in
+    let is : s + 35 ≡ 52 - n = e ∙ less-52 n le in
     let powers : 2 ^ (n + 9) ≡ 2 ^ n * 512 = pow-add 2 n 9 in
     up-to s (n + 9) (omega arith) (omega arith) ∙ omega arith
 seconds (negsuc m) s h k e =
-    let le : m ≤ 8 = leb-true m 8 (sym (in-high m) ∙ h) in
+    let le : m ≤ 8 = high-end m h in
     let is : s + 35 ≡ 52 + suc m = e in
     up-to s (8 - m) (omega arith) (omega arith) ∙ sym (shifted (8 - m) m (omega arith))
 
