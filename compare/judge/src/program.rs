@@ -1,0 +1,84 @@
+//! A program under judgement, and its output on a log.
+
+use std::{
+    io,
+    path::{Path, PathBuf},
+    process::{Command, Stdio},
+};
+
+pub struct Program {
+    pub name: String,
+    pub path: PathBuf,
+}
+
+impl Program {
+    pub fn new(name: &str, path: impl Into<PathBuf>) -> Program {
+        Program {
+            name: name.to_string(),
+            path: path.into(),
+        }
+    }
+
+    /// Its standard output, or what went wrong in a word.
+    pub fn output(&self, log: &Path) -> io::Result<Result<String, String>> {
+        let done = Command::new(&self.path)
+            .arg(log)
+            .stdin(Stdio::null())
+            .output()
+            .map_err(|e| io::Error::new(e.kind(), format!("{}: {e}", self.path.display())))?;
+        let said = String::from_utf8_lossy(&done.stderr);
+        Ok(if done.status.success() {
+            String::from_utf8(done.stdout).map_err(|_| "output that is no text".to_string())
+        } else {
+            Err(format!(
+                "{}: {}",
+                done.status,
+                said.lines().take(2).collect::<Vec<_>>().join(" ")
+            ))
+        })
+    }
+}
+
+/// The programs of a folder: `trace…` and `replay…`, in the order of their names.
+pub fn in_folder(folder: &Path) -> io::Result<Vec<Program>> {
+    let mut programs = Vec::new();
+    for entry in std::fs::read_dir(folder)? {
+        let path = entry?.path();
+        let name = path
+            .file_name()
+            .unwrap_or_default()
+            .to_string_lossy()
+            .into_owned();
+        if name.starts_with("trace") || name.starts_with("replay") {
+            programs.push(Program { name, path });
+        } else {
+            let text = format!("{name}: a program's name starts with trace or replay");
+            return Err(io::Error::other(text));
+        }
+    }
+    programs.sort_by(|a, b| a.name.cmp(&b.name));
+    Ok(programs)
+}
+
+/// The files of a folder with that extension, in the order of their names.
+pub fn files(folder: &Path, extension: &str) -> io::Result<Vec<PathBuf>> {
+    let entries = std::fs::read_dir(folder)
+        .map_err(|e| io::Error::new(e.kind(), format!("{}: {e}", folder.display())))?;
+    let mut files = Vec::new();
+    for entry in entries {
+        let path = entry?.path();
+        if path.extension().is_some_and(|found| found == extension) {
+            files.push(path);
+        }
+    }
+    files.sort();
+    Ok(files)
+}
+
+/// A log's name: its file's, without folder and extension.
+pub fn name(log: &Path) -> String {
+    log.file_stem()
+        .unwrap_or_default()
+        .to_string_lossy()
+        .into_owned()
+}

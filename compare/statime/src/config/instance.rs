@@ -1,0 +1,2 @@
+//! Stand-in written for these comparisons: statime's own file was not supplied.
+pub struct InstanceConfig;

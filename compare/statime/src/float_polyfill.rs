@@ -1,0 +1,1 @@
+//! Stand-in written for these comparisons: statime's own file was not supplied.
