@@ -119,27 +119,44 @@ fn sync_stands(stage: &mut Stage, variant: usize) {
     }
 }
 
-fn sync_low(stage: &mut Stage, variant: usize, by: i128) {
-    let message = sync(stage, variant >= 4).with_correction(CORRECTION);
+/// A corrected receive time of `by` units.
+pub fn received_low(stage: &mut Stage, message: Message, by: i128) {
+    let message = message.with_correction(CORRECTION);
     stage.event(CORRECTED.wrapping_add_signed(by), &message);
 }
 
-fn sync_high(stage: &mut Stage, variant: usize, by: i128) {
-    let message = sync(stage, variant >= 4).with_correction(-CORRECTION);
+/// A corrected receive time of `by` units below the last time.
+pub fn received_high(stage: &mut Stage, message: Message, by: i128) {
+    let message = message.with_correction(-CORRECTION);
     stage.event((LATEST - CORRECTED).wrapping_add_signed(-by), &message);
 }
 
-/// Smallest steps of corrected timestamps are those of the correction field.
-fn follow_up_low(stage: &mut Stage, variant: usize, by: i128) {
-    let ns = CORRECTION as u64;
-    let message = follow_up(stage)
-        .with_ns(ns)
-        .with_correction(by as i64 - ((ns as i64) << 16));
-    if variant >= 4 {
+fn sync_low(stage: &mut Stage, variant: usize, by: i128) {
+    received_low(stage, sync(stage, variant >= 4), by);
+}
+
+fn sync_high(stage: &mut Stage, variant: usize, by: i128) {
+    received_high(stage, sync(stage, variant >= 4), by);
+}
+
+/// A timestamp in nanoseconds, and the correction field that is as much.
+const NS: u64 = CORRECTION as u64;
+pub const NS_CORRECTION: i64 = (NS as i64) << 16;
+
+/// The timestamp `NS` with that correction, on either entry. A step of the correction field is
+/// the smallest that a corrected timestamp can take.
+pub fn timestamped(stage: &mut Stage, message: Message, correction: i64, on_event: bool) {
+    let message = message.with_ns(NS).with_correction(correction);
+    if on_event {
         stage.event(0, &message);
     } else {
         stage.general(&message);
     }
+}
+
+fn follow_up_low(stage: &mut Stage, variant: usize, by: i128) {
+    let correction = by as i64 - NS_CORRECTION;
+    timestamped(stage, follow_up(stage), correction, variant >= 4);
 }
 
 fn delay_begins(stage: &mut Stage, _: usize) {
@@ -160,15 +177,8 @@ fn delay_resp(stage: &Stage) -> Message {
 }
 
 fn delay_resp_low(stage: &mut Stage, variant: usize, by: i128) {
-    let ns = CORRECTION as u64;
-    let message = delay_resp(stage)
-        .with_ns(ns)
-        .with_correction(((ns as i64) << 16) - by as i64);
-    if variant >= 2 {
-        stage.event(0, &message);
-    } else {
-        stage.general(&message);
-    }
+    let correction = NS_CORRECTION - by as i64;
+    timestamped(stage, delay_resp(stage), correction, variant >= 2);
 }
 
 /// Completes a sync exchange with this raw offset (before asymmetry) in one of three

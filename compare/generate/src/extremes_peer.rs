@@ -1,9 +1,9 @@
 //! The edges of peer exchanges; see `extremes`.
 
 use crate::build::{units, Message};
-use crate::extremes::{Edge, CORRECTED, CORRECTION};
-use crate::stage::{Stage, LATEST, MASTER, OWN, RESPONDER};
-use plain::{Context, Mechanism, NewState};
+use crate::extremes::{received_high, received_low, timestamped, Edge, NS_CORRECTION};
+use crate::stage::{Stage, LATEST, OWN, RESPONDER, STATES};
+use plain::{Context, Mechanism};
 
 fn edge(
     name: &'static str,
@@ -48,14 +48,7 @@ fn peer_follow_up(stage: &Stage) -> Message {
 
 /// In each state by turns.
 fn peer_begins(stage: &mut Stage, variant: usize) {
-    let states = [
-        NewState::Faulty,
-        NewState::Listening,
-        NewState::Master,
-        NewState::Passive,
-        NewState::Slave(MASTER),
-    ];
-    stage.set(states[variant % 5]);
+    stage.set(STATES[variant % 5]);
     stage.delay_timer(0);
 }
 
@@ -67,26 +60,16 @@ fn peer_stands(stage: &mut Stage, variant: usize) {
 }
 
 fn peer_response_low(stage: &mut Stage, variant: usize, by: i128) {
-    let message = response(stage, variant >= 2).with_correction(CORRECTION);
-    stage.event(CORRECTED.wrapping_add_signed(by), &message);
+    received_low(stage, response(stage, variant >= 2), by);
 }
 
 fn peer_response_high(stage: &mut Stage, variant: usize, by: i128) {
-    let message = response(stage, variant >= 2).with_correction(-CORRECTION);
-    stage.event((LATEST - CORRECTED).wrapping_add_signed(-by), &message);
+    received_high(stage, response(stage, variant >= 2), by);
 }
 
 fn peer_follow_up_low(stage: &mut Stage, variant: usize, by: i128) {
-    let ns = CORRECTION as u64;
-    let correction = by as i64 - ((ns as i64) << 16);
-    let message = peer_follow_up(stage)
-        .with_ns(ns)
-        .with_correction(correction);
-    if variant >= 2 {
-        stage.event(0, &message);
-    } else {
-        stage.general(&message);
-    }
+    let correction = by as i64 - NS_CORRECTION;
+    timestamped(stage, peer_follow_up(stage), correction, variant >= 2);
 }
 
 /// Two-step, as only its two times of the responder can differ. The responder's

@@ -3,7 +3,7 @@
 
 use crate::build::{units, Message};
 use crate::extremes::Edge;
-use crate::stage::{Stage, MASTER, OTHER};
+use crate::stage::{Stage, OTHER, STATES};
 use plain::{Context, Mechanism, NewState};
 
 /// The first time whose seconds need 49 bits.
@@ -52,14 +52,7 @@ fn master(stage: &mut Stage, _: usize) {
 
 /// Each state by turns.
 fn state(stage: &mut Stage, variant: usize) {
-    let states = [
-        NewState::Listening,
-        NewState::Master,
-        NewState::Passive,
-        NewState::Faulty,
-        NewState::Slave(MASTER),
-    ];
-    stage.set(states[variant]);
+    stage.set(STATES[variant]);
 }
 
 fn late(by: i128) -> u128 {

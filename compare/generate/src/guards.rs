@@ -3,17 +3,9 @@
 
 use crate::build::{units, Message};
 use crate::owned::Owned;
-use crate::stage::{config_of, Sink, Stage, LATEST};
+use crate::stage::{config_of, Sink, Stage, LATEST, STATES};
 use crate::stage::{MASTER, NEIGHBOUR, OTHER, OWN, RESPONDER, RIVAL};
 use plain::{Context, Mechanism, NewState};
-
-const STATES: [NewState; 5] = [
-    NewState::Listening,
-    NewState::Master,
-    NewState::Passive,
-    NewState::Faulty,
-    NewState::Slave(MASTER),
-];
 
 pub fn write(sink: &mut Sink) {
     for mechanism in [Mechanism::EndToEnd, Mechanism::Peer] {

@@ -2,16 +2,8 @@
 //! also where a later row would hold.
 
 use crate::build::{units, Message};
-use crate::stage::{config_of, Sink, Stage, LATEST, MASTER, OTHER, OWN};
-use plain::{Config, Context, Event, Mechanism, NewState};
-
-const STATES: [NewState; 5] = [
-    NewState::Listening,
-    NewState::Master,
-    NewState::Passive,
-    NewState::Faulty,
-    NewState::Slave(MASTER),
-];
+use crate::stage::{config_of, Sink, Stage, LATEST, MASTER, OTHER, OWN, STATES};
+use plain::{Config, Context, Event, Mechanism};
 
 /// Times with the top bit set.
 const BEYOND: [u128; 2] = [1 << 127, u128::MAX];

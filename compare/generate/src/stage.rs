@@ -35,6 +35,15 @@ pub const NEIGHBOUR: Identity = [2, 0, 0, 0xFF, 0xFE, 0, 0, 9, 0, 2];
 pub const RESPONDER: Identity = [2, 0, 0, 0xFF, 0xFE, 0, 0, 5, 0, 1];
 pub const RIVAL: Identity = [2, 0, 0, 0xFF, 0xFE, 0, 0, 5, 0, 2];
 
+/// The states that the host can set.
+pub const STATES: [NewState; 5] = [
+    NewState::Listening,
+    NewState::Master,
+    NewState::Passive,
+    NewState::Faulty,
+    NewState::Slave(MASTER),
+];
+
 /// The largest time.
 pub const LATEST: u128 = (1 << 127) - 1;
 

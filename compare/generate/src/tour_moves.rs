@@ -2,7 +2,7 @@
 
 use crate::build::{units, Message, TWO_STEP};
 use crate::owned::Owned;
-use crate::stage::{Stage, MASTER, OTHER, OWN, RESPONDER, RIVAL};
+use crate::stage::{Stage, MASTER, OTHER, OWN, RESPONDER, RIVAL, STATES};
 use plain::{Context, Identity, NewState, Peer, State};
 
 #[derive(Clone, Copy, Debug)]
@@ -58,15 +58,8 @@ fn messages() -> Vec<Move> {
 }
 
 pub fn moves() -> Vec<Move> {
-    let states = [
-        NewState::Listening,
-        NewState::Master,
-        NewState::Passive,
-        NewState::Faulty,
-        NewState::Slave(MASTER),
-    ];
     let mut all = messages();
-    all.extend(states.map(Move::State));
+    all.extend(STATES.map(Move::State));
     all.extend([Move::SyncTimer, Move::DelayTimer]);
     for bits in 0..8 {
         all.push(Move::Stamp {

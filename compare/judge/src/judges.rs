@@ -23,8 +23,8 @@ pub struct Judges {
     programs: Vec<Program>,
     table: Table,
     told: usize,
-    /// Where smallest logs are left, and whether they are looked for.
-    findings: PathBuf,
+    /// Where the logs are, and whether smallest ones are looked for.
+    logs: PathBuf,
     smallest: bool,
 }
 
@@ -40,14 +40,13 @@ impl Judges {
             },
             table: Table::default(),
             told: 0,
-            findings: options.logs.join("findings"),
+            logs: options.logs.clone(),
             smallest: options.smallest,
         })
     }
 
     /// True if nothing unexplained was found and every listed difference was seen.
     pub fn check(&mut self, options: &Options) -> io::Result<bool> {
-        fs::create_dir_all(&self.findings)?;
         self.check_cases()?;
         for file in program::files(&options.vectors, "txt")? {
             self.check_stored(&file)?;
@@ -66,8 +65,7 @@ impl Judges {
     /// The hand-made cases: plain must write what was worked out from document 01.
     fn check_cases(&mut self) -> io::Result<()> {
         for case in cases::all().into_iter().chain(cases::wrap()) {
-            let log = self.findings.join("case.log");
-            fs::write(&log, &case.log)?;
+            let log = self.written("cases", case.name, &case.log)?;
             let got = self.trace.output(&log)?;
             let expected = case.lines.iter().map(String::as_str);
             let what = "plain = cases, by hand";
@@ -87,8 +85,7 @@ impl Judges {
         let all = stored::parse(&fs::read_to_string(file)?)
             .map_err(|line| io::Error::other(format!("{}: line {line}", file.display())))?;
         for stored in all {
-            let log = self.findings.join("stored.log");
-            fs::write(&log, &stored.log)?;
+            let log = self.written("stored", &stored.name, &stored.log)?;
             let domain = stored.rust.is_some();
             self.check_again(&log, &stored.name, false, &stored.trace)?;
             if let Some(lines) = &stored.rust {
@@ -97,6 +94,15 @@ impl Judges {
             self.check_log(&log, "stored", domain)?;
         }
         Ok(())
+    }
+
+    /// A log in a file of its own beside the generated ones.
+    fn written(&self, folder: &str, name: &str, log: &[u8]) -> io::Result<PathBuf> {
+        let folder = self.logs.join(folder);
+        fs::create_dir_all(&folder)?;
+        let file = folder.join(format!("{name}.log"));
+        fs::write(&file, log)?;
+        Ok(file)
     }
 
     /// What a judge writes now, against what it wrote then.
@@ -161,19 +167,27 @@ impl Judges {
         Ok(())
     }
 
-    fn smallest_for_rust(&mut self, log: &Path) -> io::Result<()> {
-        let file = self
-            .findings
-            .join(format!("statime-{}.log", program::name(log)));
-        let (trace, statime) = (&self.trace, &self.statime);
-        let smallest = shrink::shrink(&fs::read(log)?, &file, &mut |file| {
-            let Ok(ours) = trace.output(file)? else {
+    fn smallest_for_rust(&self, log: &Path) -> io::Result<()> {
+        self.smallest_log("statime", log, &mut |file| {
+            let Ok(ours) = self.trace.output(file)? else {
                 return Ok(false);
             };
-            let theirs = statime.output(file)?;
+            let theirs = self.statime.output(file)?;
             let found = rust_found(&fs::read(file)?, &ours, &theirs);
             Ok(compare::in_domain(&ours) && theirs.is_ok() && found.difference.is_some())
-        })?;
+        })
+    }
+
+    /// Leaves the smallest log for which `parts` holds among the findings, and says where.
+    fn smallest_log(
+        &self,
+        judge: &str,
+        log: &Path,
+        parts: &mut dyn FnMut(&Path) -> io::Result<bool>,
+    ) -> io::Result<()> {
+        let name = format!("{judge}-{}", program::name(log));
+        let file = self.written("findings", &name, &[])?;
+        let smallest = shrink::shrink(&fs::read(log)?, &file, parts)?;
         println!(
             "  smallest log, {} bytes: {}",
             smallest.len(),
@@ -207,25 +221,16 @@ impl Judges {
         Ok(())
     }
 
-    fn smallest_for_program(&mut self, log: &Path, at: usize) -> io::Result<()> {
+    fn smallest_for_program(&self, log: &Path, at: usize) -> io::Result<()> {
         let program = &self.programs[at];
-        let file = self
-            .findings
-            .join(format!("{}-{}.log", program.name, program::name(log)));
         let ours = if program.name.starts_with("trace") {
             &self.trace
         } else {
             &self.replay
         };
-        let smallest = shrink::shrink(&fs::read(log)?, &file, &mut |file| {
+        self.smallest_log(&program.name, log, &mut |file| {
             Ok(ours.output(file)? != program.output(file)?)
-        })?;
-        println!(
-            "  smallest log, {} bytes: {}",
-            smallest.len(),
-            file.display()
-        );
-        Ok(())
+        })
     }
 
     /// Counts a comparison, and tells a difference while there are few.
