@@ -182,6 +182,9 @@ fn ids() -> impl Iterator<Item = u16> {
     (0..=65_536_u32).map(|number| number as u16)
 }
 
+/// The place of the last id among these. From there on exchanges are completed too.
+const LAST: usize = 65_535;
+
 const WRAP: &str =
     "Example I: id 0 follows 65535; a wrong generator stops, refuses or starts again at 1.";
 
@@ -189,21 +192,38 @@ fn i_sync() -> Case {
     let mut s = Script::new(end_to_end(0));
     s.set(NewState::Master).nothing();
     ids().for_each(|id| s.send_sync(id));
+    s.stamp(units(44), Context::Sync(0))
+        .sends(&sent(8, 0).with_ns(44), "general");
     s.end("example-i-sync", WRAP, End::master().ids(1, 0, 0))
 }
 
 fn i_delay() -> Case {
     let mut s = Script::new(end_to_end(0));
     s.slave(MASTER).nothing();
-    ids().for_each(|id| s.request_delay(id));
-    let end = End::slave(MASTER).delay(0, None, None).ids(0, 1, 0);
+    for (number, id) in ids().enumerate() {
+        s.request_delay(id);
+        if number >= LAST {
+            s.stamp(units(70), Context::DelayReq(id)).nothing();
+            s.general(&delay_resp(id).with_ns(30))
+                .delay(duration(40), units(70), None);
+        }
+    }
+    let end = End::slave(MASTER).ids(0, 1, 0);
     s.end("example-i-delay", WRAP, end)
 }
 
 fn i_peer() -> Case {
     let mut s = Script::new(peer(0));
-    ids().for_each(|id| s.request_peer(id));
-    let end = End::listening().open(0, None, [None; 4]).ids(0, 0, 1);
+    for (number, id) in ids().enumerate() {
+        s.request_peer(id);
+        if number >= LAST {
+            s.stamp(units(1_000), Context::PDelayReq(id)).nothing();
+            // 101 ns there and back, and 101 / 2 ns are 101 * 2^31 units.
+            s.event(units(1_101), &response(id).with_ns(5_000))
+                .peer(101 << 31, units(1_101));
+        }
+    }
+    let end = End::listening().done(0, PEER).ids(0, 0, 1);
     s.end("example-i-peer", WRAP, end)
 }
 

@@ -13,33 +13,37 @@ pub struct Difference {
     pub got: String,
 }
 
-/// What a comparison of one log found.
-#[derive(Default)]
-pub struct Found {
-    pub lines: usize,
-    /// Lines that a listed rule changed, and the rules that did.
-    pub predicted: usize,
-    pub used: Vec<Rule>,
-    pub difference: Option<Difference>,
-}
-
-/// What the Rust should write where plain writes `ours`, and the rules that were used.
-pub fn expected_of_rust(log: &[u8], ours: &str) -> (Vec<String>, Found) {
+/// What the Rust should write where plain writes `ours`; in how many lines a listed rule made
+/// the difference, and which rules did.
+pub fn expected_of_rust(log: &[u8], ours: &str) -> (Vec<String>, usize, Vec<Rule>) {
     let events = fields::split(log).unwrap_or_default();
-    let mut found = Found::default();
+    let mut predicted = 0;
+    let mut all_used = Vec::new();
     let lines = ours.lines().enumerate().map(|(index, text)| {
         let event = events.get(index + 1).map(|event| fields::seen(event));
         let (text, used) = predict::line(text, event.unwrap_or_default());
-        found.predicted += usize::from(!used.is_empty());
-        found.used.extend(used);
+        predicted += usize::from(!used.is_empty());
+        all_used.extend(used);
         text
     });
     let lines = lines.collect();
-    (lines, found)
+    (lines, predicted, all_used)
+}
+
+/// A program that did not end well differs from anything.
+pub fn difference(expected: &[String], got: &Result<String, String>) -> Option<Difference> {
+    match got {
+        Ok(got) => first_difference(expected.iter().map(String::as_str), got),
+        Err(error) => Some(Difference {
+            line: 0,
+            expected: "an answer".into(),
+            got: error.clone(),
+        }),
+    }
 }
 
 /// The first line in which the two are not the same, also where one has ended.
-pub fn first_difference<'a>(
+fn first_difference<'a>(
     expected: impl IntoIterator<Item = &'a str>,
     got: &str,
 ) -> Option<Difference> {

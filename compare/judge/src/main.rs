@@ -3,7 +3,9 @@
 //! `judge check` compares; `judge store` writes the stored answers anew. compare/run calls
 //! both and says how.
 
+mod check;
 mod compare;
+mod cover;
 mod fields;
 mod hex;
 mod judges;
@@ -13,6 +15,7 @@ mod shrink;
 mod store;
 mod stored;
 mod table;
+mod tasks;
 
 use std::{path::PathBuf, process::ExitCode};
 
@@ -61,8 +64,8 @@ fn main() -> ExitCode {
         eprintln!("{USAGE}");
         return ExitCode::from(2);
     };
-    let done = Judges::new(&options).and_then(|mut judges| match command {
-        "check" => judges.check(&options),
+    let done = Judges::new(&options).and_then(|judges| match command {
+        "check" => check::check(&judges, &options),
         "store" => store::store(&judges, &options).map(|()| true),
         _ => Err(std::io::Error::other(USAGE)),
     });

@@ -19,6 +19,11 @@ impl Program {
         }
     }
 
+    /// Whether it writes the lines of `trace`, and not those of `replay`.
+    pub fn traces(&self) -> bool {
+        self.name.starts_with("trace")
+    }
+
     /// Its standard output, or what went wrong in a word.
     pub fn output(&self, log: &Path) -> io::Result<Result<String, String>> {
         let done = Command::new(&self.path)
@@ -57,7 +62,13 @@ pub fn in_folder(folder: &Path) -> io::Result<Vec<Program>> {
         }
     }
     programs.sort_by(|a, b| a.name.cmp(&b.name));
-    Ok(programs)
+    match programs.is_empty() {
+        true => Err(io::Error::other(format!(
+            "{}: no program there",
+            folder.display()
+        ))),
+        false => Ok(programs),
+    }
 }
 
 /// The files of a folder with that extension, in the order of their names.

@@ -1,5 +1,5 @@
-//! Writes the stored answers anew: the hand-made cases, a file for each group of them, and some
-//! of the generated logs.
+//! Writes the stored answers anew: the hand-made cases, a file for each group of them, and of the
+//! generated logs some random ones and the few that reach what the others leave out.
 
 use std::{
     collections::BTreeMap,
@@ -7,29 +7,55 @@ use std::{
     path::{Path, PathBuf},
 };
 
+use generate::stage::Folder;
+
 use crate::{
+    cover::{self, Reached},
     judges::Judges,
     program::{files, name},
     stored::Stored,
     Options,
 };
 
-/// Bytes of generated logs that are kept of each folder: together some thousand events.
-const KEPT: [(&str, u64, &str); 3] = [
-    ("domain", 60_000, "generated, in the differential domain"),
-    (
-        "beyond",
-        60_000,
-        "generated, beyond the differential domain",
-    ),
-    ("damaged", 12_000, "generated, damaged"),
-];
+const FOLDERS: [Folder; 3] = [Folder::Domain, Folder::Beyond, Folder::Damaged];
+
+/// Larger logs are not kept: with them the id wraps, of some 65,000 events each.
+const LARGEST: u64 = 16_000;
+
+/// Random runs that are kept of each folder, whatever they reach.
+const RANDOM: usize = 6;
+
+type Groups = BTreeMap<String, String>;
 
 pub fn store(judges: &Judges, options: &Options) -> io::Result<()> {
     for old in files(&options.vectors, "txt")? {
         fs::remove_file(old)?;
     }
-    let mut groups = BTreeMap::<String, String>::new();
+    let mut groups = Groups::new();
+    let mut covered = Reached::new();
+    store_cases(judges, options, &mut groups, &mut covered)?;
+    for (folder, log) in kept(options, &mut covered)? {
+        let name = format!("{}-{}", folder.name(), name(&log));
+        let about = format!("generated, {}", folder.name());
+        let stored = answer(judges, &log, &name, &about, folder == Folder::Domain)?;
+        let group = format!("generated-{}", folder.name());
+        groups.entry(group).or_default().push_str(&stored.to_text());
+    }
+    for (group, text) in groups {
+        fs::write(options.vectors.join(group).with_extension("txt"), text)?;
+    }
+    for row in cover::missing(&covered) {
+        println!("no stored log reaches: {row}");
+    }
+    Ok(())
+}
+
+fn store_cases(
+    judges: &Judges,
+    options: &Options,
+    groups: &mut Groups,
+    covered: &mut Reached,
+) -> io::Result<()> {
     let file = options.logs.join("case.log");
     for (group, cases) in cases::groups() {
         for case in cases {
@@ -39,38 +65,42 @@ pub fn store(judges: &Judges, options: &Options) -> io::Result<()> {
                 .entry(group.to_string())
                 .or_default()
                 .push_str(&stored.to_text());
+            let folder = if case.domain {
+                Folder::Domain
+            } else {
+                Folder::Beyond
+            };
+            cover::add(covered, &cover::reached(folder, case.name, &case.log));
         }
-    }
-    for (folder, bytes, about) in KEPT {
-        for log in kept(&options.logs.join(folder), bytes)? {
-            let name = format!("{folder}-{}", name(&log));
-            let stored = answer(judges, &log, &name, about, folder == "domain")?;
-            groups
-                .entry(format!("generated-{folder}"))
-                .or_default()
-                .push_str(&stored.to_text());
-        }
-    }
-    for (group, text) in groups {
-        fs::write(options.vectors.join(group).with_extension("txt"), text)?;
     }
     Ok(())
 }
 
-/// Logs from all over the folder, as long as they fit.
-fn kept(folder: &Path, bytes: u64) -> io::Result<Vec<PathBuf>> {
-    let logs = files(folder, "log")?;
-    let step = logs.len().div_ceil(200).max(1);
-    let mut left = bytes;
+/// The generated logs to keep.
+fn kept(options: &Options, covered: &mut Reached) -> io::Result<Vec<(Folder, PathBuf)>> {
+    let mut all = Vec::new();
     let mut kept = Vec::new();
-    for log in logs.into_iter().step_by(step) {
-        let size = fs::metadata(&log)?.len();
-        // No single log may take the room of the others.
-        if size <= left.min(bytes / 4) {
-            left -= size;
-            kept.push(log);
+    for folder in FOLDERS {
+        let mut random = 0;
+        for log in files(&options.logs.join(folder.name()), "log")? {
+            if fs::metadata(&log)?.len() > LARGEST {
+                continue;
+            }
+            let bytes = fs::read(&log)?;
+            let rows = cover::reached(folder, &name(&log), &bytes);
+            if name(&log).starts_with("walk") && random < RANDOM {
+                random += 1;
+                cover::add(covered, &rows);
+                kept.push((folder, log));
+            } else {
+                all.push((folder, log, (bytes.len(), rows)));
+            }
         }
     }
+    let rows: Vec<_> = all.iter().map(|(.., rows)| rows.clone()).collect();
+    let few = cover::few(covered, &rows);
+    kept.extend(few.into_iter().map(|at| (all[at].0, all[at].1.clone())));
+    kept.sort_by(|a, b| a.1.cmp(&b.1));
     Ok(kept)
 }
 

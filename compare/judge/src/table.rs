@@ -1,14 +1,15 @@
 //! What is counted while judging, and the table at the end.
 
-use crate::predict::{Rule, RULES};
+use crate::{judges::Outcome, predict::RULES};
 
-#[derive(Default)]
-pub struct Row {
-    pub what: String,
-    pub logs: usize,
-    pub lines: usize,
-    pub predicted: usize,
-    pub different: usize,
+struct Row {
+    what: String,
+    /// The earliest outcome that counts in it: rows stand in the order of these.
+    first: (usize, usize),
+    logs: usize,
+    lines: usize,
+    predicted: usize,
+    different: usize,
 }
 
 #[derive(Default)]
@@ -18,30 +19,35 @@ pub struct Table {
 }
 
 impl Table {
-    /// The row of that name, made when it is first asked for.
-    pub fn row(&mut self, what: &str) -> &mut Row {
-        let at = self
-            .rows
-            .iter()
-            .position(|row| row.what == what)
-            .unwrap_or_else(|| {
-                self.rows.push(Row {
-                    what: what.to_string(),
-                    ..Row::default()
-                });
-                self.rows.len() - 1
-            });
-        &mut self.rows[at]
-    }
-
-    pub fn use_rules(&mut self, rules: &[Rule]) {
+    /// `place` is that of the log among the tasks, and of the outcome among the log's.
+    pub fn count(&mut self, place: (usize, usize), outcome: &Outcome) {
+        let row = self.row(&outcome.what, place);
+        row.first = row.first.min(place);
+        row.logs += 1;
+        row.lines += outcome.lines;
+        row.predicted += outcome.predicted;
+        row.different += usize::from(outcome.difference.is_some());
         for (count, (rule, _)) in self.used.iter_mut().zip(RULES) {
-            *count += rules.iter().filter(|used| **used == rule).count();
+            *count += outcome.used.iter().filter(|used| **used == rule).count();
         }
     }
 
-    pub fn differences(&self) -> usize {
-        self.rows.iter().map(|row| row.different).sum()
+    /// The row of that name, made when it is first asked for.
+    fn row(&mut self, what: &str, first: (usize, usize)) -> &mut Row {
+        let found = self.rows.iter().position(|row| row.what == what);
+        let at = found.unwrap_or_else(|| {
+            let what = what.to_string();
+            self.rows.push(Row {
+                what,
+                first,
+                logs: 0,
+                lines: 0,
+                predicted: 0,
+                different: 0,
+            });
+            self.rows.len() - 1
+        });
+        &mut self.rows[at]
     }
 
     /// A listed difference that no log showed would not be tested.
@@ -49,7 +55,8 @@ impl Table {
         self.used.iter().filter(|count| **count == 0).count()
     }
 
-    pub fn print(&self) {
+    pub fn print(&mut self) {
+        self.rows.sort_by_key(|row| row.first);
         println!(
             "{:<44} {:>7} {:>10} {:>10} {:>10}",
             "", "logs", "lines", "by rule", "different"

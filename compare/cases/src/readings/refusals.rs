@@ -53,7 +53,11 @@ fn host_types() -> Case {
         let bytes = host.to_bytes();
         s.event(5, &host).refused(8);
         s.general_bytes(&bytes[..34]).refused(8);
-        s.general(&host.clone().with_length(33)).refused(5);
+        for length in [0, 33] {
+            let short = host.clone().with_length(length);
+            s.event(5, &short).refused(5);
+            s.general(&short).refused(5);
+        }
         s.general(&host.clone().with_length(44)).refused(8);
         s.general(&host.clone().with_length(45)).refused(5);
         s.general_bytes(&bytes[..33]).refused(5);

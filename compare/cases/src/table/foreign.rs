@@ -15,11 +15,13 @@ pub fn all() -> Vec<Case> {
     ]
 }
 
+/// High half of the sdo id, its low byte, and the domain, by one bit each.
+const FOREIGN: [(u16, u8); 4] = [(0xB5C, 0x7B), (0xA5D, 0x7B), (0xADC, 0x7B), (0xA5C, 0x7A)];
+
 fn every_bit_of_it() -> Case {
     let mut s = slave();
     for message in of_each_type() {
-        // High half of the sdo id, its low byte, and the domain, by one bit each.
-        for (sdo, domain) in [(0xB5C, 0x7B), (0xA5D, 0x7B), (0xADC, 0x7B), (0xA5C, 0x7A)] {
+        for (sdo, domain) in FOREIGN {
             let message = in_domain(sdo, domain, message.clone());
             both(&mut s, &message.to_bytes(), 6);
         }
@@ -45,7 +47,9 @@ fn foreign_before_range() -> Case {
     s.event(LATE, &pdelay_req(1)).refused(7);
     for kind in 11..=13 {
         let host = of_type(kind, early.clone());
-        s.general(&foreign(host.clone())).refused(6);
+        for (sdo, domain) in FOREIGN {
+            both(&mut s, &in_domain(sdo, domain, host.clone()).to_bytes(), 6);
+        }
         s.general(&host).refused(8);
     }
     s.end(

@@ -123,7 +123,7 @@ fn stated_short() -> Case {
     let mut s = slave();
     for message in of_each_type() {
         let there = message.to_bytes().len() as u16;
-        for length in [0, 33, there - 1] {
+        for length in [0, 33, 34, there - 1] {
             let short = message.clone().with_length(length).with_extra(&[0; 20]);
             both(&mut s, &short.to_bytes(), 5);
         }
