@@ -44,7 +44,7 @@ pub const RULES: [(Rule, &str); 6] = [
     ),
 ];
 
-/// A stamp's fraction of a nanosecond, cut to 16 bits.
+/// What f is: the upper 16 bits of a time's part below a nanosecond.
 fn fraction(time: u128) -> i64 {
     i64::from(time as u32 >> 16)
 }

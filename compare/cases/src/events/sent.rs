@@ -60,8 +60,8 @@ fn sync_intervals(name: &'static str, sync_interval: i8, ns: u64) -> Case {
     }
     s.end(
         name,
-        "The sync timer is 2^n seconds in nanoseconds, exactly, and n stands in Sync and FollowUp; \
-         a draw or the other interval shows.",
+        "For interval n the sync timer runs 2^n s, to the nanosecond, and n stands in Sync and \
+         FollowUp; a draw or the other interval shows.",
         End::master().ids(3, 0, 0),
     )
 }

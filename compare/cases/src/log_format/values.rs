@@ -40,7 +40,7 @@ fn kinds() -> Vec<Damage> {
 
 fn context_widths() -> Vec<Damage> {
     damages(
-        "A context has 3 bytes, or 13 for kind 3; a lax reader drops or makes up an identity.",
+        "A context is 3 bytes long, 13 if its kind is 3; a lax reader drops or makes up an identity.",
         vec![
             ("log-context-0-bytes", stamp(&[])),
             ("log-context-1-byte", stamp(&[0])),

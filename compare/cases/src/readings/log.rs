@@ -42,8 +42,8 @@ fn out_of_limits() -> Case {
         .sends(&sent(1, 0), "delay-timer:250000000,event:1:0");
     s.end(
         "reading-01-time-and-draw",
-        "Reading 1: a time with its top bit set or a draw of 2^52 is answered 3 and the log goes \
-         on; a strict reader calls the log bad.",
+        "Reading 1: a time of 2^127 and a draw of 2^52 are answered 3 and the log goes on; a strict \
+         reader calls the log bad.",
         End::slave(MASTER)
             .sync(2, None, Some(TOP))
             .delay(0, None, None)
@@ -81,8 +81,8 @@ fn mechanism() -> Case {
         0,
         &[field(CONFIG, &bytes), field(0x13, &[])].concat(),
         "reading-02-mechanism",
-        "Reading 2: a mechanism other than 0 or 1 is a bad choice; a lax reader answers 2 or takes \
-         it for peer.",
+        "Reading 2: mechanism 2 makes the first field bad; a lax reader answers 2 or takes it for \
+         peer.",
     )
 }
 

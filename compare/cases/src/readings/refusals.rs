@@ -177,7 +177,7 @@ fn peer_works_nothing_out() -> Case {
     s.end(
         "reading-11-peer-guard",
         "Reading 11: peer answers that change nothing are not worked out, and a second responder \
-         is Faulty even with an impossible correction; else 7.",
+         makes the port Faulty whatever it corrects by; else 7.",
         End::faulty().done(0, PEER).ids(0, 0, 1),
     )
 }
@@ -197,8 +197,8 @@ fn corrected_times() -> Case {
     s.general(&follow_up(2)).sync(i128::MAX, TOP, None);
     s.end(
         "reading-12-corrected-times",
-        "Reading 12: a corrected time is 0 to 2^127 - 1; a port that keeps negative or larger ones \
-         answers 0.",
+        "Reading 12: what a correction leaves must be a time again; a port that keeps negative or \
+         too large ones answers 0.",
         End::slave(MASTER).raw(i128::MAX),
     )
 }

@@ -130,7 +130,7 @@ fn wire_nanoseconds() -> Case {
         .delay(duration(294_967_300), at, Some(-duration(147_483_600)));
     s.end(
         "slip-nanoseconds-of-a-second-or-more",
-        "Wire nanoseconds of 10^9 or more count as they are; a wrong port refuses them or takes \
+        "A nanoseconds field above 999,999,999 adds what it says; a wrong port refuses it or takes \
          the remainder.",
         End::slave(MASTER).raw(duration(100)).ids(0, 1, 0),
     )

@@ -3,9 +3,8 @@
 //!
 //! Not to be reached by a log, only by a direct call:
 //! - row 1, because a replay lends a buffer of 64 bytes or more;
-//! - row 2 for a record with a time out of limits, an open sync without a time, a peer
-//!   exchange with a later time but no responder, or an exchange with all its times:
-//!   a fresh port never gets there.
+//! - row 2 for what it says of times and exchanges: no run of a fresh port leaves such a
+//!   record behind.
 
 use super::decode::Seen;
 use plain::{Config, Event};

@@ -8,7 +8,7 @@ const HUNDRED: &str = "00000000000000000000006400000000";
 /// 30.5 ns.
 const THIRTY_AND_A_HALF: i128 = 61 << 31;
 
-/// Whole case A: two-step Sync 7 at 1,000 ns, its FollowUp at 900 ns.
+/// Whole case A: received at 1,000 ns, sent at 900 ns.
 #[test]
 fn a() {
     let (first, second) = (sync(7).two_step(), follow_up(7, 900));
@@ -34,7 +34,7 @@ fn b() {
     assert_eq!(replay(&log), format!("1 0 - -\n2 0 - -\n3 0 S {HUNDRED}\n"));
 }
 
-/// FollowUp 7, then one-step Sync 7: no measurement, and the exchange stays open.
+/// A one-step Sync does not complete what a FollowUp opened, nor close it.
 #[test]
 fn c() {
     let mut port = slave();
@@ -63,7 +63,7 @@ fn d() {
     assert_eq!(slave_state(&port).sync, Some(open));
 }
 
-/// Peer times 1,000, 5,000, 5,040 and 1,101 ns, the events in any order: 30.5 ns.
+/// Half of 101 ns there and back less 40 ns over there, the events in any order.
 #[test]
 fn e() {
     let (response, tail) = (peer_resp(0, 5000).two_step(), peer_follow_up(0, 5040));
@@ -93,7 +93,7 @@ fn e() {
     }
 }
 
-/// A one-step response to that request: request receive time 5,000 ns, correction 40 ns.
+/// The same in one step: the 40 ns stand in the correction.
 /// The event time is the corrected one.
 #[test]
 fn f() {

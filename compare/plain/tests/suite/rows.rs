@@ -57,7 +57,7 @@ fn row_2_before_3_and_for_every_event() {
     assert_eq!(refused(&mut port, Event::DelayTimer { draw: u64::MAX }), 2);
 }
 
-/// 3 is given whatever the event would do with its time or draw, and before 4.
+/// Row 3 comes ahead of row 4 and asks nobody whether the time or draw is of use.
 #[test]
 fn row_3() {
     let mut port = port(NewState::Listening);

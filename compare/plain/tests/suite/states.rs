@@ -11,7 +11,7 @@ const STATES: [NewState; 5] = [
     NewState::Slave(MASTER),
 ];
 
-/// The filter is reset exactly if the old state was Slave or Faulty or the new is Faulty.
+/// All changes of state: which of them reset the filter, and that no other does.
 #[test]
 fn resets() {
     for (old, from) in STATES.into_iter().enumerate() {
@@ -31,7 +31,7 @@ fn resets() {
     }
 }
 
-/// Slave set again, even with the same master, is emptied; the rest of the record stays.
+/// To become Slave is to begin anew, also for one that is Slave of that master already.
 #[test]
 fn slave_again() {
     let mut port = slave();
@@ -152,8 +152,8 @@ fn timers() {
     }
 }
 
-/// DelayReq is answered as Master under either mechanism, PDelayReq under either and in
-/// every state, from anybody, ourselves too.
+/// The mechanism has no say in who is answered, nor has the asker, be it ourselves; the
+/// state has for DelayReq.
 #[test]
 fn answers() {
     for mechanism in [Mechanism::EndToEnd, Mechanism::Peer] {

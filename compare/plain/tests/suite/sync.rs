@@ -8,7 +8,7 @@ fn open(port: &Port) -> (u16, Option<u128>, Option<u128>) {
     (open.id, open.send, open.receive)
 }
 
-/// Not Slave, or not from our master, is taken whatever the numbers.
+/// Outside the guard no number can be wrong.
 #[test]
 fn guard_before_sum() {
     for state in [
