@@ -9,6 +9,7 @@ mod examples;
 mod log_format;
 mod readings;
 mod record;
+mod rust;
 mod script;
 mod slips;
 mod step;
@@ -31,7 +32,7 @@ pub struct Case {
 }
 
 /// Every case but those of `wrap`, by the part of 01 that it belongs to.
-pub fn groups() -> [(&'static str, Vec<Case>); 6] {
+pub fn groups() -> [(&'static str, Vec<Case>); 7] {
     [
         ("examples", examples::all()),
         ("slips", slips::all()),
@@ -39,6 +40,7 @@ pub fn groups() -> [(&'static str, Vec<Case>); 6] {
         ("table", table::all()),
         ("events", events::all()),
         ("log", log_format::all()),
+        ("differences", rust::all()),
     ]
 }
 

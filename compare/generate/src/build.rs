@@ -138,11 +138,6 @@ impl Log {
         self.bytes.extend(stated(tag, length, content));
     }
 
-    /// Any outer field made of inner ones with true lengths.
-    pub fn outer_of(&mut self, tag: u8, fields: &[(u8, Vec<u8>)]) {
-        self.outer(tag, &joined(fields));
-    }
-
     pub fn raw(&mut self, bytes: &[u8]) {
         self.bytes.extend(bytes);
     }

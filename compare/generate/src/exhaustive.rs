@@ -1,7 +1,7 @@
 //! Short messages without gaps: every type and version, every length from 0 to 60, and
 //! stated lengths around each edge, on both entries.
 
-use crate::build::{table_length, Message};
+use crate::build::Message;
 use crate::stage::{config_of, Sink, Stage, MASTER, OWN};
 use plain::{Event, Mechanism};
 
@@ -66,39 +66,50 @@ fn longest(kind: u8, version: u8, stated: usize) -> Vec<u8> {
     bytes
 }
 
+/// The lengths to state where so many bytes are there.
+fn stated(there: usize) -> Vec<usize> {
+    if there < 4 {
+        // The field is cut off, or away.
+        return vec![0];
+    }
+    let mut lengths: Vec<usize> = STATED.to_vec();
+    lengths.extend([there - 1, there, there + 1]);
+    lengths.sort();
+    lengths.dedup();
+    lengths
+}
+
 pub fn write(sink: &mut Sink) {
     for kind in 0..16 {
         let mut pair = Pair::new();
         for there in 0..=LONGEST {
-            let mut lengths: Vec<usize> = STATED.to_vec();
-            lengths.extend([there.saturating_sub(1), there, there + 1]);
-            lengths.sort();
-            lengths.dedup();
-            if there < 4 {
-                // The stated length is cut off or away.
-                lengths.truncate(1);
-            }
-            for stated in lengths {
+            for stated in stated(there) {
                 pair.both(&longest(kind, 2, stated)[..there]);
             }
         }
         pair.finish(&format!("short-{kind:02}"), sink);
     }
-    versions(sink);
+    for version in (0..16).filter(|version| *version != 2) {
+        versions(version, sink);
+    }
 }
 
-/// Row 4 comes first, so one stated length is enough: the right one.
-fn versions(sink: &mut Sink) {
-    for version in (0..16).filter(|version| *version != 2) {
-        let mut pair = Pair::new();
-        for kind in 0..16 {
-            for there in 0..=LONGEST {
-                let stated = table_length(kind);
-                pair.both(&longest(kind, version, stated)[..there]);
+/// The other versions, on the two entries by turns: both see every type and every length.
+fn versions(version: u8, sink: &mut Sink) {
+    let mut pair = Pair::new();
+    for kind in 0..16 {
+        for there in 0..=LONGEST {
+            for (turn, stated) in stated(there).into_iter().enumerate() {
+                let message = &longest(kind, version, stated)[..there];
+                let time = 1 << 90;
+                pair.play(&match (turn + there) % 2 {
+                    0 => Event::Event { time, message },
+                    _ => Event::General { message },
+                });
             }
         }
-        pair.finish(&format!("version-{version:02}"), sink);
     }
+    pair.finish(&format!("version-{version:02}"), sink);
 }
 
 #[cfg(test)]

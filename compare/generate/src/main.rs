@@ -136,10 +136,11 @@ fn run() -> Result<ExitCode, Box<dyn Error>> {
     let report = coverage.report();
     std::fs::write(options.out.join("coverage.txt"), &report)?;
     print!("{report}");
-    Ok(match (coverage.empty(), coverage.surprises()) {
+    // A port that answers wrongly may well leave rows empty: the answers are the news.
+    Ok(match (coverage.surprises(), coverage.empty()) {
         (0, 0) => ExitCode::SUCCESS,
-        (0, _) => DISPUTED.into(),
-        _ => EMPTY.into(),
+        (0, _) => EMPTY.into(),
+        _ => DISPUTED.into(),
     })
 }
 

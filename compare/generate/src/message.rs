@@ -81,14 +81,6 @@ impl Message {
         Message::of(0, config, source, id)
     }
 
-    pub fn delay_req(config: &Config, source: Identity, id: u16) -> Message {
-        Message::of(1, config, source, id)
-    }
-
-    pub fn pdelay_req(config: &Config, source: Identity, id: u16) -> Message {
-        Message::of(2, config, source, id)
-    }
-
     /// One-step; see `two_step`.
     pub fn pdelay_resp(config: &Config, source: Identity, id: u16, to: Identity) -> Message {
         Message::of(3, config, source, id).with_requester(to)

@@ -35,6 +35,10 @@ struct Finding {
 /// True if nothing unexplained was found, every listed difference was seen, and the logs whose
 /// answers are known reach every row of the coverage report.
 pub fn check(judges: &Judges, options: &Options) -> io::Result<bool> {
+    let findings = options.logs.join("findings");
+    if findings.exists() {
+        fs::remove_dir_all(findings)?;
+    }
     let tasks = tasks::all(options)?;
     let mut table = Table::default();
     let mut findings = Vec::new();

@@ -17,11 +17,12 @@ pub struct Difference {
 /// the difference, and which rules did.
 pub fn expected_of_rust(log: &[u8], ours: &str) -> (Vec<String>, usize, Vec<Rule>) {
     let events = fields::split(log).unwrap_or_default();
+    let config = events.first().map_or(&[][..], |field| &field[3..]);
     let mut predicted = 0;
     let mut all_used = Vec::new();
     let lines = ours.lines().enumerate().map(|(index, text)| {
         let event = events.get(index + 1).map(|event| fields::seen(event));
-        let (text, used) = predict::line(text, event.unwrap_or_default());
+        let (text, used) = predict::line(text, config, event.unwrap_or_default());
         predicted += usize::from(!used.is_empty());
         all_used.extend(used);
         text

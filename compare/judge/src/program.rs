@@ -1,6 +1,7 @@
 //! A program under judgement, and its output on a log.
 
 use std::{
+    fs::File,
     io,
     path::{Path, PathBuf},
     process::{Command, Stdio},
@@ -24,22 +25,23 @@ impl Program {
         self.name.starts_with("trace")
     }
 
-    /// Its standard output, or what went wrong in a word.
+    /// Its standard output, or what went wrong in a word. Logs of an odd length are handed to it on
+    /// standard input, so that both ways of reading are used.
     pub fn output(&self, log: &Path) -> io::Result<Result<String, String>> {
-        let done = Command::new(&self.path)
-            .arg(log)
-            .stdin(Stdio::null())
+        let mut command = Command::new(&self.path);
+        match std::fs::metadata(log)?.len() % 2 {
+            0 => command.arg(log).stdin(Stdio::null()),
+            _ => command.stdin(File::open(log)?),
+        };
+        let done = command
             .output()
             .map_err(|e| io::Error::new(e.kind(), format!("{}: {e}", self.path.display())))?;
         let said = String::from_utf8_lossy(&done.stderr);
         Ok(if done.status.success() {
             String::from_utf8(done.stdout).map_err(|_| "output that is no text".to_string())
         } else {
-            Err(format!(
-                "{}: {}",
-                done.status,
-                said.lines().take(2).collect::<Vec<_>>().join(" ")
-            ))
+            let said = said.lines().take(2).collect::<Vec<_>>().join(" ");
+            Err(format!("{}: {said}", done.status))
         })
     }
 }

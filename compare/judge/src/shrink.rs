@@ -14,7 +14,9 @@ pub fn shrink(
     file: &Path,
     parts: &mut dyn FnMut(&Path) -> io::Result<bool>,
 ) -> io::Result<Vec<u8>> {
+    // A log that is no row of fields cannot be made smaller by whole ones.
     let Some(mut kept) = fields::split(log) else {
+        fs::write(file, log)?;
         return Ok(log.to_vec());
     };
     let mut tries = 0;

@@ -28,9 +28,6 @@ const RANDOM: usize = 6;
 type Groups = BTreeMap<String, String>;
 
 pub fn store(judges: &Judges, options: &Options) -> io::Result<()> {
-    for old in files(&options.vectors, "txt")? {
-        fs::remove_file(old)?;
-    }
     let mut groups = Groups::new();
     let mut covered = Reached::new();
     store_cases(judges, options, &mut groups, &mut covered)?;
@@ -40,6 +37,10 @@ pub fn store(judges: &Judges, options: &Options) -> io::Result<()> {
         let stored = answer(judges, &log, &name, &about, folder == Folder::Domain)?;
         let group = format!("generated-{}", folder.name());
         groups.entry(group).or_default().push_str(&stored.to_text());
+    }
+    // Only now, when every answer is there.
+    for old in files(&options.vectors, "txt")? {
+        fs::remove_file(old)?;
     }
     for (group, text) in groups {
         fs::write(options.vectors.join(group).with_extension("txt"), text)?;

@@ -1,6 +1,7 @@
 //! What there is to judge: one log each, with the answers that are known of it beforehand.
 
 use std::{
+    collections::BTreeMap,
     fs, io,
     path::{Path, PathBuf},
 };
@@ -34,6 +35,7 @@ pub fn all(options: &Options) -> io::Result<Vec<Task>> {
     for file in some(&options.vectors, "txt")? {
         add_stored(&file, options, &mut tasks)?;
     }
+    cases_are_stored(&tasks)?;
     for (folder, domain) in [("domain", true), ("beyond", false), ("damaged", false)] {
         for log in some(&options.logs.join(folder), "log")? {
             tasks.push(Task {
@@ -59,6 +61,21 @@ fn add_stored(file: &Path, options: &Options, tasks: &mut Vec<Task>) -> io::Resu
             known: Some(("plain trace = stored answers", stored.trace)),
             rust: stored.rust,
         });
+    }
+    Ok(())
+}
+
+/// Every case must be among the stored answers as it is now: its name and its bytes.
+fn cases_are_stored(tasks: &[Task]) -> io::Result<()> {
+    let mut stored = BTreeMap::new();
+    for task in tasks.iter().filter(|task| task.folder == "stored") {
+        stored.insert(program::name(&task.log), fs::read(&task.log)?);
+    }
+    for case in cases::all() {
+        if stored.get(case.name) != Some(&case.log) {
+            let text = format!("case {} is not stored as it is: compare/run --store", case.name);
+            return Err(io::Error::other(text));
+        }
     }
     Ok(())
 }

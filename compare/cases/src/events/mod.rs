@@ -4,6 +4,7 @@ mod answers;
 mod bytes;
 mod delay;
 mod filter;
+mod ids;
 mod one_step;
 mod orders;
 mod peer;
@@ -23,6 +24,7 @@ pub fn all() -> Vec<Case> {
         delay::all(),
         orders::all(),
         peer::all(),
+        ids::all(),
         responder::all(),
         answers::all(),
         sent::all(),

@@ -6,6 +6,7 @@ mod differences;
 mod foreign;
 mod header;
 mod limits;
+mod long;
 mod sent;
 mod times;
 
@@ -15,6 +16,7 @@ pub fn all() -> Vec<Case> {
     [
         limits::all(),
         header::all(),
+        long::all(),
         foreign::all(),
         times::all(),
         differences::all(),

@@ -18,8 +18,8 @@ fn ends() -> Section {
             let (name, number) = match fate {
                 Fate::Below => ("7, below", 7),
                 Fate::Above => ("7, above", 7),
-                Fate::Lowest => ("taken, just above the lower end", 0),
-                Fate::Highest => ("taken, just below the upper end", 0),
+                Fate::Lowest => ("taken at the lower end", 0),
+                Fate::Highest => ("taken at the upper end", 0),
                 Fate::Inside => ("taken", 0),
             };
             section.add(&format!("{quantity:?} {name}"), move |case| {

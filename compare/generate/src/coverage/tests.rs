@@ -56,7 +56,7 @@ fn refusals_count_beyond() {
     let mut coverage = Coverage::new();
     coverage.log(Folder::Beyond, "refused", &stage.log.bytes);
     assert_eq!(counted(&coverage, "sum: SyncReceive 7, below"), (0, 1));
-    let name = "sum: SyncReceive taken, just above the lower end";
+    let name = "sum: SyncReceive taken at the lower end";
     assert_eq!(counted(&coverage, name), (0, 1));
     assert_eq!(counted(&coverage, "7: one-step Sync, none open"), (0, 1));
     assert_eq!(coverage.surprises(), 0);
