@@ -1,7 +1,7 @@
 //! A PTP port that works on one event at a time, and a reader for its event log.
 //!
-//! The rules are those of document 01, read as READINGS says. The crate exists to be
-//! compared with other implementations, so it favours the plainest code that is still
+//! The rules are those of document 01; readings are numbered as in docs/DECISIONS.md. The
+//! crate exists to be compared with other implementations, so it favours the plainest code that is still
 //! fast: one record, one call per event, no allocation while a log is read.
 //!
 //! * [`Port::handle`] takes an event and gives the answer; `port` holds the order of

@@ -1,7 +1,7 @@
 //! Plays an event log to the supplied port and writes the lines of `trace`.
 //!
-//! Only logs of document 01's differential domain mean anything here: the rest stops the
-//! program with a panic that says what was met.
+//! It is given good logs of document 01's differential domain only, and does not test that they
+//! are: what it writes of another means nothing.
 
 mod log;
 mod text;

@@ -1,4 +1,4 @@
-//! Stand-in written for these comparisons: statime's own file was not supplied.
+//! Not statime's: written for these comparisons, for the driver.
 //! What the driver sees of a port's insides: all of the record that document 01 has.
 
 use crate::time::{Duration, Time};

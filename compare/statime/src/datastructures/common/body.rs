@@ -1,4 +1,4 @@
-//! Stand-in written for these comparisons: statime's own file was not supplied.
+//! Not statime's: written for these comparisons, for the stand-ins of the seven messages.
 //! The two shapes of a body in document 01's table, once for all seven messages: a
 //! timestamp alone, with room behind it that is written as zero, or a timestamp and an
 //! identity.
