@@ -19,8 +19,33 @@ pub struct Edge {
     pub variants: usize,
     pub mechanism: Mechanism,
     pub asymmetry: i128,
-    pub begin: fn(&mut Stage, usize),
-    pub strike: fn(&mut Stage, usize, i128),
+    pub begin: Begin,
+    pub strike: Strike,
+}
+
+/// What comes before the edge, by variant.
+pub type Begin = fn(&mut Stage, usize);
+/// The event at the edge, by variant and distance.
+pub type Strike = fn(&mut Stage, usize, i128);
+
+impl Edge {
+    /// Without asymmetry.
+    pub fn new(
+        name: &'static str,
+        variants: usize,
+        mechanism: Mechanism,
+        begin: Begin,
+        strike: Strike,
+    ) -> Edge {
+        Edge {
+            name,
+            variants,
+            mechanism,
+            asymmetry: 0,
+            begin,
+            strike,
+        }
+    }
 }
 
 /// Any correction will do, as long as it is larger than the distances.
@@ -46,21 +71,9 @@ pub fn write(edges: &[Edge], sink: &mut Sink) {
     }
 }
 
-/// A port that measures end to end, without asymmetry.
-fn edge(
-    name: &'static str,
-    variants: usize,
-    begin: fn(&mut Stage, usize),
-    strike: fn(&mut Stage, usize, i128),
-) -> Edge {
-    Edge {
-        name,
-        variants,
-        mechanism: Mechanism::EndToEnd,
-        asymmetry: 0,
-        begin,
-        strike,
-    }
+/// Of a port that measures end to end.
+fn edge(name: &'static str, variants: usize, begin: Begin, strike: Strike) -> Edge {
+    Edge::new(name, variants, Mechanism::EndToEnd, begin, strike)
 }
 
 /// All edges of Sync, FollowUp and DelayResp.

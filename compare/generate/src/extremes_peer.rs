@@ -1,24 +1,13 @@
 //! The edges of peer exchanges; see `extremes`.
 
 use crate::build::{units, Message};
-use crate::extremes::{received_high, received_low, timestamped, Edge, NS_CORRECTION};
+use crate::extremes::{received_high, received_low, timestamped};
+use crate::extremes::{Begin, Edge, Strike, NS_CORRECTION};
 use crate::stage::{Stage, LATEST, OWN, RESPONDER, STATES};
 use plain::{Context, Mechanism};
 
-fn edge(
-    name: &'static str,
-    variants: usize,
-    begin: fn(&mut Stage, usize),
-    strike: fn(&mut Stage, usize, i128),
-) -> Edge {
-    Edge {
-        name,
-        variants,
-        mechanism: Mechanism::Peer,
-        asymmetry: 0,
-        begin,
-        strike,
-    }
+fn edge(name: &'static str, variants: usize, begin: Begin, strike: Strike) -> Edge {
+    Edge::new(name, variants, Mechanism::Peer, begin, strike)
 }
 
 /// All edges of PDelayResp and its follow-up.

@@ -2,7 +2,7 @@
 //! `extremes`.
 
 use crate::build::{units, Message};
-use crate::extremes::Edge;
+use crate::extremes::{Begin, Edge, Strike};
 use crate::stage::{Stage, OTHER, STATES};
 use plain::{Context, Mechanism, NewState};
 
@@ -12,20 +12,9 @@ const TOO_LATE: u128 = units((1 << 48) * 1_000_000_000);
 /// A fraction of 100 steps of a correction field, and something below them to be cut.
 const FRACTION: u128 = (100 << 16) + 77;
 
-fn edge(
-    name: &'static str,
-    mechanism: Mechanism,
-    begin: fn(&mut Stage, usize),
-    strike: fn(&mut Stage, usize, i128),
-) -> Edge {
-    Edge {
-        name,
-        variants: 5,
-        mechanism,
-        asymmetry: 0,
-        begin,
-        strike,
-    }
+/// With a variant for each state.
+fn edge(name: &'static str, mechanism: Mechanism, begin: Begin, strike: Strike) -> Edge {
+    Edge::new(name, 5, mechanism, begin, strike)
 }
 
 /// All edges of messages that are sent, under both mechanisms.

@@ -3,7 +3,7 @@
 //! A log is a row of outer fields, each a one-byte tag, a two-byte length and a value.
 //! [`Reader`] walks one of any size through a window of fixed size: an event lends its
 //! message from the window, and only the rest of a field that is cut off by the end of
-//! the window is ever moved. [`parse`] does the same for a log that is in memory.
+//! the window is ever moved.
 
 use crate::{Config, Context, Event, Identity, Mechanism, NewState};
 use std::io;
@@ -254,30 +254,4 @@ impl<R: io::Read> Reader<R> {
             }
         }
     }
-}
-
-/// Reads a whole log in memory: the configuration if the first field is good, the
-/// events before the end or the first bad field, and the offset of that field.
-pub fn parse(bytes: &[u8]) -> (Option<Config>, Vec<Event<'_>>, Option<usize>) {
-    let mut events = Vec::new();
-    let configuration = match front(bytes, true) {
-        Front::Field(size) => config(&bytes[PREFIX..size]).map(|config| (config, size)),
-        _ => None,
-    };
-    let Some((configuration, mut at)) = configuration else {
-        return (None, events, Some(0));
-    };
-    while at < bytes.len() {
-        let rest = &bytes[at..];
-        let found = match front(rest, false) {
-            Front::Field(size) => event(rest[0], &rest[PREFIX..size]).map(|event| (event, size)),
-            _ => None,
-        };
-        let Some((event, size)) = found else {
-            return (Some(configuration), events, Some(at));
-        };
-        events.push(event);
-        at += size;
-    }
-    (Some(configuration), events, None)
 }

@@ -1,5 +1,6 @@
 //! Builders for messages, logs and ports, written apart from the crate's own code.
 
+use plain::log::{Read, Reader};
 use plain::run::{run, Style};
 use plain::*;
 
@@ -271,4 +272,36 @@ fn lines(log: &[u8], style: Style) -> String {
     let mut written = Vec::new();
     run(log, &mut written, style).unwrap();
     String::from_utf8(written).unwrap()
+}
+
+/// What the reader finds in a log: configuration, events, and where a bad field is. Messages
+/// outlive the reader's window by never being freed.
+pub fn parse(log: &[u8]) -> (Option<Config>, Vec<Event<'static>>, Option<usize>) {
+    let mut reader = Reader::new(log);
+    let (mut config, mut events) = (None, Vec::new());
+    let kept = |message: &[u8]| -> &'static [u8] { message.to_vec().leak() };
+    loop {
+        events.push(match reader.next().expect("memory can be read") {
+            Read::Config(found) => {
+                config = Some(found);
+                continue;
+            }
+            Read::End => return (config, events, None),
+            Read::Bad(at) => return (config, events, Some(at as usize)),
+            Read::Event(event) => match event {
+                Event::Event { time, message } => Event::Event {
+                    time,
+                    message: kept(message),
+                },
+                Event::General { message } => Event::General {
+                    message: kept(message),
+                },
+                Event::Stamp { time, context } => Event::Stamp { time, context },
+                Event::SyncTimer => Event::SyncTimer,
+                Event::DelayTimer { draw } => Event::DelayTimer { draw },
+                Event::Filter { mean, next } => Event::Filter { mean, next },
+                Event::SetState(state) => Event::SetState(state),
+            },
+        });
+    }
 }

@@ -1,7 +1,6 @@
 //! Good and damaged logs (readings 1 to 6): which fields are bad, and where.
 
 use crate::common::*;
-use plain::log::parse;
 use plain::*;
 
 const HEAD: usize = 36;

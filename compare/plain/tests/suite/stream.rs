@@ -67,9 +67,9 @@ fn long_log(turns: u16) -> Vec<u8> {
     log
 }
 
-/// The lines of a log, worked out without the reader: events in memory, one by one.
+/// The lines of a log that is read at once, worked out event by event.
 fn plainly(log: &[u8]) -> String {
-    let (config, events, bad) = plain::log::parse(log);
+    let (config, events, bad) = parse(log);
     let mut port = Port::new(config.unwrap());
     let mut lines = String::new();
     for (index, event) in events.iter().enumerate() {
