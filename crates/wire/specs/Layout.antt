@@ -1,0 +1,231 @@
+-- Document 01, 'Wire form', and IEEE 1588-2019, clause 13, as data: where each field stands, and which message has which body.
+use Prim.Native.Nat.{ℕ, _+_, _*_, _/_, _%_}
+use mathlib.Core.Bool.{Bool, cond}
+use mathlib.Core.List.{List, [], _∷_, _++_}
+use lib.Dec.{eqb}
+use Rattle.time.specs.declared.WireTimestamp.{WireTimestamp}
+use Rattle.wire.specs.declared.Identity.{Identity}
+use Rattle.wire.specs.declared.Header.{Header}
+use Rattle.wire.specs.declared.MessageType.{MessageType}
+use Rattle.wire.specs.declared.MessageType.the-variants as M
+use Rattle.wire.specs.declared.Kind.{Kind}
+use Rattle.wire.specs.declared.Kind.the-variants as K
+use Rattle.wire.specs.declared.Body.{Body}
+use Rattle.wire.specs.declared.Body.the-variants as B
+use Rattle.wire.specs.declared.Rest.{Rest}
+use Rattle.wire.specs.declared.Rest.the-variants as Q
+use Rattle.wire.specs.Bytes.{Place, Entry, _for_, _≔_, field, bytesOf}
+
+-- ---- the common header (13.3.1, table 35)
+
+abbrev pub majorSdoId·messageType : Place
+majorSdoId·messageType = 0 for 1
+
+abbrev pub minorVersionPTP·versionPTP : Place
+minorVersionPTP·versionPTP = 1 for 1
+
+abbrev pub messageLength : Place
+messageLength = 2 for 2
+
+abbrev pub domainNumber : Place
+domainNumber = 4 for 1
+
+abbrev pub minorSdoId : Place
+minorSdoId = 5 for 1
+
+abbrev pub flagField : Place
+flagField = 6 for 2
+
+abbrev pub correctionField : Place
+correctionField = 8 for 8
+
+abbrev pub messageTypeSpecific : Place
+messageTypeSpecific = 16 for 4
+
+-- the first byte of sourcePortIdentity
+abbrev pub sourcePortIdentity : ℕ
+sourcePortIdentity = 20
+
+abbrev pub sequenceId : Place
+sequenceId = 30 for 2
+
+abbrev pub controlField : Place
+controlField = 32 for 1
+
+abbrev pub logMessageInterval : Place
+logMessageInterval = 33 for 1
+
+-- a byte that two fields share, four bits each
+abbrev pub high : ℕ → ℕ
+high b = b / 16
+
+abbrev pub low : ℕ → ℕ
+low b = b % 16
+
+abbrev pub halves : ℕ → ℕ → ℕ
+halves h l = h * 16 + l
+
+-- two-step is 0x02 in byte 6, the higher byte of the flags (13.3.2.8, table 37)
+abbrev pub twoStepFlag : ℕ
+twoStepFlag = 0x02 * 256
+
+unfoldable pub twoStep : Header → Bool
+twoStep h = eqb (h .flags / twoStepFlag % 2) 1
+
+-- ---- what takes more than one field
+
+-- a Timestamp (5.3.3): six bytes of seconds, four of nanoseconds
+unfoldable pub timestampEntries : ℕ → WireTimestamp → List Entry
+timestampEntries at w = (at for 6 ≔ w .seconds) ∷ (at + 6 for 4 ≔ w .nanos) ∷ []
+
+unfoldable pub timestampAt : ℕ → List ℕ → WireTimestamp
+timestampAt at l = record { seconds = field (at for 6) l; nanos = field (at + 6 for 4) l }
+
+-- a PortIdentity (5.3.5): eight bytes of clock, two of port
+unfoldable pub identityEntries : ℕ → Identity → List Entry
+identityEntries at i = (at for 8 ≔ i .clock) ∷ (at + 8 for 2 ≔ i .port) ∷ []
+
+unfoldable pub identityAt : ℕ → List ℕ → Identity
+identityAt at l = record { clock = field (at for 8) l; port = field (at + 8 for 2) l }
+
+-- ---- the header, written with a control byte and read
+
+unfoldable pub headerEntries : Header → ℕ → List Entry
+headerEntries h control =
+    (majorSdoId·messageType ≔ halves (h .«major_sdo») (h .kind))
+    ∷ (minorVersionPTP·versionPTP ≔ halves (h .minor) (h .version))
+    ∷ (messageLength ≔ h .length)
+    ∷ (domainNumber ≔ h .domain)
+    ∷ (minorSdoId ≔ h .«minor_sdo»)
+    ∷ (flagField ≔ h .flags)
+    ∷ (correctionField ≔ h .correction)
+    ∷ (messageTypeSpecific ≔ 0)
+    ∷ (identityEntries sourcePortIdentity (h .source)
+    ++ ((sequenceId ≔ h .id)
+    ∷ (controlField ≔ control)
+    ∷ (logMessageInterval ≔ h .interval)
+    ∷ []))
+
+unfoldable pub headerOf : List ℕ → Header
+headerOf l =
+    record {
+      «major_sdo» = high (field majorSdoId·messageType l);
+      kind = low (field majorSdoId·messageType l);
+      minor = high (field minorVersionPTP·versionPTP l);
+      version = low (field minorVersionPTP·versionPTP l);
+      length = field messageLength l;
+      domain = field domainNumber l;
+      «minor_sdo» = field minorSdoId l;
+      flags = field flagField l;
+      correction = field correctionField l;
+      source = identityAt sourcePortIdentity l;
+      id = field sequenceId l;
+      interval = field logMessageInterval l;
+    }
+
+-- ---- the messages (01's table; 13.3.2.3, table 36; 13.3.2.13, table 42)
+
+pub record Row : Type 0 where
+  pub number : ℕ
+  pub control : ℕ
+  pub length : ℕ
+
+abbrev pub row : MessageType → Row
+row M.Sync = record { number = 0; control = 0; length = 44 }
+row M.DelayReq = record { number = 1; control = 1; length = 44 }
+row M.PDelayReq = record { number = 2; control = 5; length = 54 }
+row M.PDelayResp = record { number = 3; control = 5; length = 54 }
+row M.FollowUp = record { number = 8; control = 2; length = 44 }
+row M.DelayResp = record { number = 9; control = 3; length = 54 }
+row M.PDelayRespFollowUp = record { number = 10; control = 5; length = 54 }
+
+-- which of the table's messages has a number; 11 to 13 are the host's, and what is left is no type
+abbrev pub named : List MessageType → ℕ → Kind → Kind
+named [] k none = none
+named (t ∷ ts) k none = cond (eqb k (row t .number)) (K.Table t) (named ts k none)
+
+unfoldable pub kindOf : ℕ → Kind
+kindOf k =
+    named (M.Sync ∷ M.DelayReq ∷ M.PDelayReq ∷ M.PDelayResp ∷ M.FollowUp ∷ M.DelayResp ∷ M.PDelayRespFollowUp ∷ []) k
+    (cond (eqb k 11) K.Host (cond (eqb k 12) K.Host (cond (eqb k 13) K.Host K.Reserved)))
+
+-- ---- the bodies, from byte 34 on (13.6 to 13.11). Where the part behind the header is written by itself, `at` is 0
+
+abbrev pub body : ℕ
+body = 34
+
+-- each message has one timestamp, and it comes first
+abbrev pub timestampOf : Body → WireTimestamp
+timestampOf (B.Sync t) = t
+timestampOf (B.DelayReq t) = t
+timestampOf (B.PDelayReq t) = t
+timestampOf (B.PDelayResp t i) = t
+timestampOf (B.FollowUp t) = t
+timestampOf (B.DelayResp t i) = t
+timestampOf (B.PDelayRespFollowUp t i) = t
+
+-- what lies behind the timestamp: nothing, ten reserved bytes, or the requester's identity
+abbrev pub restEntries : ℕ → Rest → List Entry
+restEntries at Q.Nothing = []
+restEntries at Q.Reserved = (at for 10 ≔ 0) ∷ []
+restEntries at (Q.Requester i) = identityEntries at i
+
+abbrev pub restOf : Body → Rest
+restOf (B.Sync t) = Q.Nothing
+restOf (B.DelayReq t) = Q.Nothing
+restOf (B.PDelayReq t) = Q.Reserved
+restOf (B.PDelayResp t i) = Q.Requester i
+restOf (B.FollowUp t) = Q.Nothing
+restOf (B.DelayResp t i) = Q.Requester i
+restOf (B.PDelayRespFollowUp t i) = Q.Requester i
+
+unfoldable pub bodyEntries : ℕ → Body → List Entry
+bodyEntries at b = timestampEntries at (timestampOf b) ++ restEntries (at + 10) (restOf b)
+
+unfoldable pub bodyOf : MessageType → List ℕ → Body
+bodyOf M.Sync l = B.Sync (timestampAt body l)
+bodyOf M.DelayReq l = B.DelayReq (timestampAt body l)
+bodyOf M.PDelayReq l = B.PDelayReq (timestampAt body l)
+bodyOf M.PDelayResp l = B.PDelayResp (timestampAt body l) (identityAt (body + 10) l)
+bodyOf M.FollowUp l = B.FollowUp (timestampAt body l)
+bodyOf M.DelayResp l = B.DelayResp (timestampAt body l) (identityAt (body + 10) l)
+bodyOf M.PDelayRespFollowUp l = B.PDelayRespFollowUp (timestampAt body l) (identityAt (body + 10) l)
+
+abbrev pub typeOf : Body → MessageType
+typeOf (B.Sync t) = M.Sync
+typeOf (B.DelayReq t) = M.DelayReq
+typeOf (B.PDelayReq t) = M.PDelayReq
+typeOf (B.PDelayResp t i) = M.PDelayResp
+typeOf (B.FollowUp t) = M.FollowUp
+typeOf (B.DelayResp t i) = M.DelayResp
+typeOf (B.PDelayRespFollowUp t i) = M.PDelayRespFollowUp
+
+-- ---- the whole message: the header, with the control byte of its type, and the body behind it
+
+unfoldable pub messageEntries : Header → Body → List Entry
+messageEntries h b = headerEntries h (row (typeOf b) .control) ++ bodyEntries body b
+
+unfoldable pub messageBytes : Header → Body → List ℕ
+messageBytes h b = bytesOf (messageEntries h b)
+
+-- ---- what is not read: messageTypeSpecific, control, PDelayReq's reserved bytes, and all that lies behind a body
+
+abbrev pub reservedIn : Kind → List Place
+reservedIn (K.Table M.Sync) = []
+reservedIn (K.Table M.DelayReq) = []
+reservedIn (K.Table M.PDelayReq) = (44 for 10) ∷ []
+reservedIn (K.Table M.PDelayResp) = []
+reservedIn (K.Table M.FollowUp) = []
+reservedIn (K.Table M.DelayResp) = []
+reservedIn (K.Table M.PDelayRespFollowUp) = []
+reservedIn K.Host = []
+reservedIn K.Reserved = []
+
+unfoldable pub unread : Kind → List Place
+unread k = messageTypeSpecific ∷ controlField ∷ reservedIn k
+
+-- how many bytes are read at most: to the end of the body, and of a message that has none here to the end of the header
+abbrev pub readTo : Kind → ℕ
+readTo (K.Table t) = row t .length
+readTo K.Host = body
+readTo K.Reserved = body

@@ -1,0 +1,10 @@
+-- What is read in document 01's terms: the number of its table ('Numbers the port answers') that the bytes alone decide. 0 stands for a message that these rows let through. (Row 6 asks what the port is, and comes between 5 and 8.)
+use Prim.Native.Nat.{ℕ}
+use Rattle.wire.specs.declared.Reading.{Reading}
+use Rattle.wire.specs.declared.Reading.the-variants as G
+
+abbrev pub numberOf : Reading → ℕ
+numberOf (G.Message h b t) = 0
+numberOf (G.Host h) = 8
+numberOf G.Version = 4
+numberOf G.Malformed = 5

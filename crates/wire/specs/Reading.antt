@@ -1,0 +1,56 @@
+-- Document 01, 'Numbers the port answers': rows 4 and 5 in its words, and what stands in the bytes where neither refuses them.
+use Prim.Native.Nat.{ℕ}
+use mathlib.Core.Bool.{Bool, true, false, cond, _||_, not}
+use mathlib.Core.List.{List}
+use lib.ListN.{length}
+use lib.Dec.{ltb, eqb}
+use Rattle.time.specs.declared.ReadAnswer.{ReadAnswer}
+use Rattle.time.specs.declared.ReadAnswer.the-variants as R
+use Rattle.time.specs.Units.{timeOfWire}
+use Rattle.wire.specs.declared.MessageType.{MessageType}
+use Rattle.wire.specs.declared.Kind.{Kind}
+use Rattle.wire.specs.declared.Kind.the-variants as K
+use Rattle.wire.specs.declared.Header.{Header}
+use Rattle.wire.specs.declared.Body.{Body}
+use Rattle.wire.specs.declared.Reading.{Reading}
+use Rattle.wire.specs.declared.Reading.the-variants as G
+use Rattle.wire.specs.Bytes.{field}
+use Rattle.wire.specs.Layout.{row, kindOf, headerOf, bodyOf, timestampAt, body, low, minorVersionPTP·versionPTP, majorSdoId·messageType, messageLength}
+
+-- row 4: shorter than 2 bytes, or version not 2
+unfoldable pub row4 : List ℕ → Bool
+row4 l = ltb (length l) 2 || not (eqb (low (field minorVersionPTP·versionPTP l)) 2)
+
+-- the last two conditions of row 5: a type that is none, and a stated length short of the table's
+abbrev pub reserved : Kind → Bool
+reserved (K.Table t) = false
+reserved K.Host = false
+reserved K.Reserved = true
+
+abbrev pub shortFor : Kind → ℕ → Bool
+shortFor (K.Table t) stated = ltb stated (row t .length)
+shortFor K.Host stated = false
+shortFor K.Reserved stated = false
+
+-- row 5, on what row 4 lets through
+unfoldable pub row5 : List ℕ → Bool
+row5 l =
+    let stated : ℕ = field messageLength l in
+    let kind : Kind = kindOf (low (field majorSdoId·messageType l)) in
+    ltb (length l) 34 || (ltb stated 34 || ltb (length l) stated) || reserved kind || shortFor kind stated
+
+-- every timestamp of a message is read as a time here, used or not; what is no time makes the message malformed. (`ReadingLaws`, `timestamp-read`: today each is a time.)
+abbrev pub timed : ReadAnswer → Header → Body → Reading
+timed (R.Value t) h b = G.Message h b t
+timed R.Seconds h b = G.Malformed
+
+unfoldable pub messageOf : MessageType → List ℕ → Reading
+messageOf t l = timed (timeOfWire (timestampAt body l)) (headerOf l) (bodyOf t l)
+
+abbrev pub decoded : Kind → List ℕ → Reading
+decoded (K.Table t) l = messageOf t l
+decoded K.Host l = G.Host (headerOf l)
+decoded K.Reserved l = G.Malformed
+
+unfoldable pub readOf : List ℕ → Reading
+readOf l = cond (row4 l) G.Version (cond (row5 l) G.Malformed (decoded (kindOf (low (field majorSdoId·messageType l))) l))

@@ -1,0 +1,22 @@
+use Rattle.wire.specs.LayoutLaws.{header-written}
+use borrow.Author.Needs.{needs}
+use Rattle.writing.proofs.headers.write_header.Statement.{statement}
+use Rattle.writing.proofs.headers.write_header.Tie as tie
+
+write-front-requires : tie.Need-write-front-requires
+write-front-requires c κs = search needs
+
+write-back-requires : tie.Need-write-back-requires
+write-back-requires c κs = search needs
+
+same-length : tie.Need-same-length
+same-length c = search needs
+
+returns : tie.Need-returns
+returns c =
+    let a = c .before .before .before .before .before .before .before .before .before .args in
+    cc (header-written (a .h) (a .control) (a .packet .now) (search needs))
+
+pub write-header-spec : {M : Type 1} → statement M
+write-header-spec =
+    tie.close (tie.spec write-front-requires write-back-requires same-length returns)

@@ -1,0 +1,6 @@
+-- Messages written. To be believed: `Writing`, `Numbers`. What follows: its laws, the round trips with `wire`'s reading, and whole packets both ways.
+pub mod Writing
+pub mod Numbers
+pub mod WritingLaws
+pub mod RoundTrips
+pub mod Examples

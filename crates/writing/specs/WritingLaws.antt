@@ -1,0 +1,64 @@
+-- Laws of writing, for callers: what fits, and when a message is written.
+use Prim.Native.Nat.{ℕ, _≤_, _<_}
+use mathlib.Core.Path.{_≡_, refl}
+use mathlib.Core.Bool.{Bool, true, false, cond, _&&_}
+use lib.Dec.{ltb, eqb}
+use borrow.Author.Tests.{ltb-true, ltb-false, lt-ltb, le-ltb, eqb-true, eq-eqb}
+use Rattle.wire.specs.declared.Header.{Header}
+use Rattle.wire.specs.declared.Body.{Body}
+use Rattle.writing.specs.declared.Written.the-variants as W
+use Rattle.wire.specs.Bytes.{roomy}
+use Rattle.wire.specs.Layout.{row, typeOf, messageEntries}
+use Rattle.writing.specs.Writing.{together, fitsOf, writeOf}
+use Rattle.wire.specs.BytesLaws.{both, apart, Fits, roomy-fits, fits-roomy}
+
+-- `fitsOf` as facts
+pub record Fitting (h : Header) (b : Body) : Type 0 where
+  pub version : h .version ≡ 2
+  pub number-is : h .kind ≡ row (typeOf b) .number
+  pub length-is : h .length ≡ row (typeOf b) .length
+  pub major : h .«major_sdo» < 16
+  pub minor : h .minor < 16
+  pub each : Fits (messageEntries h b)
+
+pub fits-is : (h : Header) (b : Body) → fitsOf h b ≡ true → Fitting h b
+unfolding fitsOf together
+fits-is h b e =
+    let v : Bool = eqb (h .version) 2 in
+    let k : Bool = eqb (h .kind) (row (typeOf b) .number) in
+    let n : Bool = eqb (h .length) (row (typeOf b) .length) in
+    let four : Bool = ltb (h .«major_sdo») 16 && ltb (h .minor) 16 in
+    let (p, r) = both (v && k && n && four) (roomy (messageEntries h b)) e in
+    let (q, s) = both (v && k && n) four p in
+    let (x, y) = both (ltb (h .«major_sdo») 16) (ltb (h .minor) 16) s in
+    let (z, c) = both (v && k) n q in
+    let (a, d) = both v k z in
+    record {
+      version = eqb-true (h .version) 2 a;
+      number-is = eqb-true (h .kind) (row (typeOf b) .number) d;
+      length-is = eqb-true (h .length) (row (typeOf b) .length) c;
+      major = ltb-true (h .«major_sdo») 16 x;
+      minor = ltb-true (h .minor) 16 y;
+      each = roomy-fits (messageEntries h b) r;
+    }
+
+pub fits-when : (h : Header) (b : Body) → Fitting h b → fitsOf h b ≡ true
+unfolding fitsOf together
+fits-when h b f =
+    simp (eq-eqb (h .version) 2 (f .version), eq-eqb (h .kind) (row (typeOf b) .number) (f .number-is), eq-eqb (h .length) (row (typeOf b) .length) (f .length-is), lt-ltb (h .«major_sdo») 16 (f .major), lt-ltb (h .minor) 16 (f .minor), fits-roomy (messageEntries h b) (f .each))
+
+-- written exactly where it fits and the room is enough
+pub write-when : (h : Header) (b : Body) (room : ℕ) → fitsOf h b ≡ true → row (typeOf b) .length ≤ room → writeOf h b room ≡ W.Length (row (typeOf b) .length)
+unfolding writeOf
+write-when h b room f r = simp (f, le-ltb room (row (typeOf b) .length) r)
+
+picked : (fit short : Bool) (k n : ℕ) → cond fit (cond short W.Short (W.Length k)) W.Unfit ≡ W.Length n → (fit ≡ true) × (short ≡ false) × (n ≡ k)
+picked true true k n e = absurd (apart cc)
+picked true false k n e = (refl, refl, cc)
+picked false short k n e = absurd (apart cc)
+
+pub write-is : (h : Header) (b : Body) (room n : ℕ) → writeOf h b room ≡ W.Length n → (fitsOf h b ≡ true) × (row (typeOf b) .length ≤ room) × (n ≡ row (typeOf b) .length)
+unfolding writeOf
+write-is h b room n e =
+    let (fit, short, same) = picked (fitsOf h b) (ltb room (row (typeOf b) .length)) (row (typeOf b) .length) n e in
+    (fit, ltb-false room (row (typeOf b) .length) short, same)
