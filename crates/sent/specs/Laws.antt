@@ -27,9 +27,12 @@ pub correction-in : (z : ℤ) → mag z < 2 ^ 63 → correctionOf z ≡ C.Value 
 unfolding correctionOf
 correction-in z h = simp (in-correction z ∙ lt-ltb (mag z) (2 ^ 63) h)
 
-pub correction-out : (z : ℤ) → 2 ^ 63 ≤ mag z → correctionOf z ≡ C.Out
+pub correction-out-when : (z : ℤ) → inCorrection z ≡ false → correctionOf z ≡ C.Out
 unfolding correctionOf
-correction-out z h = simp (in-correction z ∙ le-ltb (mag z) (2 ^ 63) h)
+correction-out-when z h = simp h
+
+pub correction-out : (z : ℤ) → 2 ^ 63 ≤ mag z → correctionOf z ≡ C.Out
+correction-out z h = correction-out-when z (in-correction z ∙ le-ltb (mag z) (2 ^ 63) h)
 
 -- a - b in 64 bits: not negative, negative, and too far below zero
 pub correction-up : (a b : ℕ) → b ≤ a → a < b + 2 ^ 63 → correctionOf (subℕ a b) ≡ C.Value (a - b)

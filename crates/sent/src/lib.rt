@@ -209,13 +209,9 @@ impl Sender {
                 correction,
             } => {
                 let requester = request.source;
-                let header = self.header(
-                    MessageType::PDelayResp,
-                    TWO_STEP,
-                    correction,
-                    request.id,
-                    NO_INTERVAL,
-                );
+                let id = request.id;
+                let t = MessageType::PDelayResp;
+                let header = self.header(t, TWO_STEP, correction, id, NO_INTERVAL);
                 let body = Body::PDelayResp {
                     request_receive: timestamp,
                     requester,
@@ -237,13 +233,8 @@ impl Sender {
                 correction,
             } => {
                 let requester = request.source;
-                let header = self.header(
-                    MessageType::DelayResp,
-                    0,
-                    correction,
-                    request.id,
-                    interval,
-                );
+                let id = request.id;
+                let header = self.header(MessageType::DelayResp, 0, correction, id, interval);
                 let body = Body::DelayResp {
                     receive: timestamp,
                     requester,
@@ -264,13 +255,8 @@ impl Sender {
                 timestamp,
                 correction,
             } => {
-                let header = self.header(
-                    MessageType::PDelayRespFollowUp,
-                    0,
-                    correction,
-                    id,
-                    NO_INTERVAL,
-                );
+                let t = MessageType::PDelayRespFollowUp;
+                let header = self.header(t, 0, correction, id, NO_INTERVAL);
                 let body = Body::PDelayRespFollowUp {
                     response_origin: timestamp,
                     requester,

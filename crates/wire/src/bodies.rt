@@ -1,20 +1,28 @@
 // The bodies, read where they stand in a message.
 ghost use mathlib.Core.Path.{_≡_};
-ghost use Prim.Native.Nat.{_≤_};
+ghost use Prim.Native.Nat.{_+_, _≤_};
 ghost use mathlib.Core.Bool.{cond};
 ghost use lib.Dec.{ltb};
 ghost use lib.ListN.{length};
 ghost use Rattle.wire.specs.declared.Reading.the-variants.{Malformed};
-ghost use Rattle.wire.specs.Layout.{row, headerOf, bodyOf, timestampAt, body};
+ghost use Rattle.wire.specs.Layout.{row, headerOf, bodyOf, timestampAt, identityAt, body};
 ghost use Rattle.wire.specs.Reading.{messageOf};
 use crate::Body;
 use crate::Header;
+use crate::Identity;
 use crate::MessageType;
 use crate::Reading;
 use crate::fields;
 use time::ReadAnswer;
 use time::Time;
 use time::WireTimestamp;
+
+fn requester_at(s: &[u8]) -> Identity
+    requires { ⌜ 54 ≤ length (now s) ⌝ }
+    ensures { λ r. ⌜ r ≡ identityAt (body + 10) (now (s .entry)) ⌝ }
+{
+    fields::get_identity(s, 44)
+}
 
 // The body of a message whose timestamp was read already.
 fn body_at(s: &[u8], t: MessageType, stamp: WireTimestamp) -> Body
@@ -27,18 +35,18 @@ fn body_at(s: &[u8], t: MessageType, stamp: WireTimestamp) -> Body
         MessageType::PDelayReq => Body::PDelayReq { origin: stamp },
         MessageType::PDelayResp => Body::PDelayResp {
             request_receive: stamp,
-            requester: fields::get_identity(s, 44),
+            requester: requester_at(s),
         },
         MessageType::FollowUp => Body::FollowUp {
             precise_origin: stamp,
         },
         MessageType::DelayResp => Body::DelayResp {
             receive: stamp,
-            requester: fields::get_identity(s, 44),
+            requester: requester_at(s),
         },
         MessageType::PDelayRespFollowUp => Body::PDelayRespFollowUp {
             response_origin: stamp,
-            requester: fields::get_identity(s, 44),
+            requester: requester_at(s),
         },
     }
 }

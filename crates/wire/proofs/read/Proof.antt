@@ -17,7 +17,7 @@ use Rattle.wire.proofs.read.Tie as tie
 returns : tie.Need-returns
 unfolding readOf row4 row5 headerOf
 returns c =
-    simp (lt-ltb _ _ (c .if1 .taken))
+    simp (lt-ltb (length (c .before .before .args .s .now)) 2 (omega (arith, c .if1 .taken)))
 
 get-u8-requires : tie.Need-get-u8-requires
 get-u8-requires c κs = search needs
@@ -30,7 +30,7 @@ returns-2 c =
 returns-3 : tie.Need-returns-3
 unfolding readOf row4 row5 headerOf
 returns-3 c =
-    simp (lt-ltb _ _ (c .if3 .taken), eq-eqb _ _ (c .before .if2 .left), sym (c .before .before .get-u8 .ensures), le-ltb _ _ (c .before .before .before .if1 .left))
+    simp (lt-ltb (length (c .before .before .before .before .before .args .s .now)) 34 (omega (arith, c .if3 .taken)), eq-eqb _ _ (c .before .if2 .left), sym (c .before .before .get-u8 .ensures), le-ltb _ _ (c .before .before .before .if1 .left))
 
 header-at-requires : tie.Need-header-at-requires
 header-at-requires c κs = search needs

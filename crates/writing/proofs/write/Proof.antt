@@ -1,6 +1,6 @@
 use Prim.Native.Nat.{ℕ}
 use mathlib.Core.List.{_++_}
-use lib.ListN.{drop}
+use lib.ListN.{length, drop}
 use mathlib.Core.Path.{sym, _∙_, ap}
 use native.Mathlib.Omega.{arith}
 use borrow.Author.Tests.{lt-ltb, le-ltb}
@@ -28,7 +28,8 @@ unfolding writeOf leftOf
 returns c =
     let n = c .before .wide .ensures ∙ c .before .before .length .ensures ∙ ap (λ (t : MessageType). row t .length) (c .before .before .before .message-type .ensures) in
     let fits = sym (c .before .before .before .before .before .fits2 .ensures) ∙ c .before .before .before .before .if1 .taken in
-    (simp (fits, sym n, lt-ltb _ _ (c .if2 .taken)), simp (fits, sym n, lt-ltb _ _ (c .if2 .taken)))
+    let short = lt-ltb (length (c .before .before .before .before .before .before .before .args .packet .now)) (c .before .wide .result) (omega (arith, c .if2 .taken)) in
+    (simp (fits, sym n, short), simp (fits, sym n, short))
 
 lay-requires : tie.Need-lay-requires
 lay-requires c κs =

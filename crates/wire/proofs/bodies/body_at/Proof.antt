@@ -19,8 +19,8 @@ enum-told-3 c = search needs
 enum-told-4 : tie.Need-enum-told-4
 enum-told-4 c = search needs
 
-get-identity-requires : tie.Need-get-identity-requires
-get-identity-requires c κs = omega (arith, ap (λ (x : MessageType). row x .length) (c .enum-told4 .given .1))
+requester-at-requires : tie.Need-requester-at-requires
+requester-at-requires c κs = omega (arith, ap (λ (x : MessageType). row x .length) (c .enum-told4 .given .1))
 
 enum-told-5 : tie.Need-enum-told-5
 enum-told-5 c = search needs
@@ -28,14 +28,14 @@ enum-told-5 c = search needs
 enum-told-6 : tie.Need-enum-told-6
 enum-told-6 c = search needs
 
-get-identity-requires-2 : tie.Need-get-identity-requires-2
-get-identity-requires-2 c κs = omega (arith, ap (λ (x : MessageType). row x .length) (c .enum-told6 .given .1))
+requester-at-requires-2 : tie.Need-requester-at-requires-2
+requester-at-requires-2 c κs = omega (arith, ap (λ (x : MessageType). row x .length) (c .enum-told6 .given .1))
 
 enum-told-7 : tie.Need-enum-told-7
 enum-told-7 c = search needs
 
-get-identity-requires-3 : tie.Need-get-identity-requires-3
-get-identity-requires-3 c κs = omega (arith, ap (λ (x : MessageType). row x .length) (c .enum-told7 .given .1))
+requester-at-requires-3 : tie.Need-requester-at-requires-3
+requester-at-requires-3 c κs = omega (arith, ap (λ (x : MessageType). row x .length) (c .enum-told7 .given .1))
 
 returns : tie.Need-returns
 unfolding bodyOf
@@ -51,7 +51,7 @@ returns-3 c = simp (c .enum-told3 .given .1, c .before .before .before .pre .1)
 
 returns-4 : tie.Need-returns-4
 unfolding bodyOf
-returns-4 c = simp (c .get-identity .ensures, c .before .enum-told4 .given .1, c .before .before .before .before .pre .1)
+returns-4 c = simp (c .requester-at .ensures, c .before .enum-told4 .given .1, c .before .before .before .before .pre .1)
 
 returns-5 : tie.Need-returns-5
 unfolding bodyOf
@@ -59,11 +59,11 @@ returns-5 c = simp (c .enum-told5 .given .1, c .before .before .before .pre .1)
 
 returns-6 : tie.Need-returns-6
 unfolding bodyOf
-returns-6 c = simp (c .get-identity2 .ensures, c .before .enum-told6 .given .1, c .before .before .before .before .pre .1)
+returns-6 c = simp (c .requester-at2 .ensures, c .before .enum-told6 .given .1, c .before .before .before .before .pre .1)
 
 returns-7 : tie.Need-returns-7
 unfolding bodyOf
-returns-7 c = simp (c .get-identity3 .ensures, c .before .enum-told7 .given .1, c .before .before .before .before .pre .1)
+returns-7 c = simp (c .requester-at3 .ensures, c .before .enum-told7 .given .1, c .before .before .before .before .pre .1)
 
 pub body-at-spec : {M : Type 1} → statement M
 body-at-spec =
@@ -73,12 +73,12 @@ body-at-spec =
     enum-told-2
     enum-told-3
     enum-told-4
-    get-identity-requires
+    requester-at-requires
     enum-told-5
     enum-told-6
-    get-identity-requires-2
+    requester-at-requires-2
     enum-told-7
-    get-identity-requires-3
+    requester-at-requires-3
     returns
     returns-2
     returns-3

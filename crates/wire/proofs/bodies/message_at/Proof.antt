@@ -12,7 +12,8 @@ length-requires : tie.Need-length-requires
 length-requires c κs = search needs
 
 returns : tie.Need-returns
-returns c = simp (lt-ltb _ _ (c .if1 .taken), sym (c .before .length .ensures))
+returns c =
+    simp (lt-ltb (c .before .before .before .args .header .length) (c .before .length .result) (omega (arith, c .if1 .taken)), sym (c .before .length .ensures))
 
 get-timestamp-requires : tie.Need-get-timestamp-requires
 get-timestamp-requires c κs = omega (arith, c .if1 .left, c .before .length .ensures, stamp-room (c .before .before .before .args .t), c .before .before .before .pre .1)

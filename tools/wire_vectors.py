@@ -1,0 +1,351 @@
+#!/usr/bin/env python3
+"""Questions to crates wire, writing and sent and the answers of document 01, in Python's integers.
+
+Writes crates/wire_vectors/stdin and stdout; with --check only says whether they are what it would
+write (the gate runs the answers and not this script). The rules are written here anew from document 01,
+'Units', 'Wire form' and 'Numbers the port answers', and share nothing with the Rattle. A question is a
+letter and numbers of fixed widths, an answer the letter, 01's number and the values (crates/wire_vectors/src).
+"""
+
+import random
+import sys
+from pathlib import Path
+
+LINE = 262
+MOST = 128
+NS = 2**32
+# A header's numbers in the order in which they are asked and told, and their hexadecimal digits.
+HEADER = {"major": 2, "type": 2, "minor": 2, "version": 2, "length": 4, "domain": 2, "minor_sdo": 2, "flags": 4}
+HEADER |= {"correction": 16, "clock": 16, "port": 4, "id": 4, "interval": 2}
+BODY = {"seconds": 16, "nanos": 8, "clock": 16, "port": 4}
+SENDER = {"sdo": 4, "domain": 2, "minor": 2, "clock": 16, "port": 4}
+# 01's table: type, then control, length, and whether a requester's identity follows the timestamp.
+TABLE = {0: (0, 44, False), 1: (1, 44, False), 8: (2, 44, False), 2: (5, 54, False)}
+TABLE |= {3: (5, 54, True), 9: (3, 54, True), 10: (5, 54, True)}
+HOST = (11, 12, 13)
+REFUSED = (4, 5, 6, 7, 14, 15)
+SENT_ROOM = 64
+
+
+def line(letter, *numbers):
+    """A question: its numbers, each a value and how many digits it has, and dots to the line's end."""
+    text = letter + "".join(f" {value:0{digits}x}" for value, digits in numbers)
+    assert len(text) < LINE, text
+    return text + "." * (LINE - 1 - len(text)) + "\n"
+
+
+def record(values, widths):
+    assert set(values) == set(widths), values
+    return [(values[name], digits) for name, digits in widths.items()]
+
+
+def signed(n, bits):
+    return n - 2**bits if n >= 2 ** (bits - 1) else n
+
+
+def told(*values):
+    return "".join(f" {v:x}" for v in values)
+
+
+def number(message, at, width):
+    return int.from_bytes(message[at : at + width], "big")
+
+
+# The questions, each with its answer.
+
+
+def read(message, behind=0x5A):
+    """What a message is; the program has more bytes than it lends, and those hold something else."""
+    whole = message + bytes([behind]) * (MOST - len(message))
+    return line("r", (len(message), 2), (int.from_bytes(whole, "big"), 2 * MOST)), "r" + reading(message)
+
+
+def reading(message):
+    if len(message) < 2 or message[1] % 16 != 2:
+        return " 4"
+    if len(message) < 34:
+        return " 5"
+    kind, stated = message[0] % 16, number(message, 2, 2)
+    if not 34 <= stated <= len(message) or kind in REFUSED:
+        return " 5"
+    header = told(message[0] // 16, kind, message[1] // 16, 2, stated, message[4], message[5])
+    header += told(number(message, 6, 2), number(message, 8, 8), number(message, 20, 8), number(message, 28, 2))
+    header += told(number(message, 30, 2), message[33])
+    if kind in HOST:
+        return " 8" + header
+    _, length, answers = TABLE[kind]
+    if stated < length:
+        return " 5"
+    seconds, nanos = number(message, 34, 6), number(message, 40, 4)
+    body = told(kind, seconds, nanos) + f" {(seconds * 10**9 + nanos) * NS:032x}"
+    return " 0" + header + body + (told(number(message, 44, 8), number(message, 52, 2)) if answers else " -")
+
+
+def spelled(header, kind, body):
+    """The bytes of a message, each field at the place that 01 gives it."""
+    control, length, answers = TABLE[kind]
+    fields = [(header["major"] * 16 + header["type"], 1), (header["minor"] * 16 + header["version"], 1)]
+    fields += [(header["length"], 2), (header["domain"], 1), (header["minor_sdo"], 1), (header["flags"], 2)]
+    fields += [(header["correction"], 8), (0, 4), (header["clock"], 8), (header["port"], 2), (header["id"], 2)]
+    fields += [(control, 1), (header["interval"], 1), (body["seconds"], 6), (body["nanos"], 4)]
+    fields += [(body["clock"], 8), (body["port"], 2)] if answers else [(0, length - 44)]
+    return b"".join(value.to_bytes(width, "big") for value, width in fields)
+
+
+def fits(header, kind, body):
+    room = header["major"] < 16 and header["minor"] < 16 and body["seconds"] < 2**48
+    return room and (header["version"], header["type"], header["length"]) == (2, kind, TABLE[kind][1])
+
+
+def writing(header, kind, body, room, fill):
+    """The writer's answer and the buffer behind it."""
+    left = bytes([fill]) * room
+    if not fits(header, kind, body):
+        said = " unfit"
+    elif room < TABLE[kind][1]:
+        said = " short"
+    else:
+        message = spelled(header, kind, body)
+        said, left = told(len(message)), message + left[len(message) :]
+    return said + " " + (left.hex() or "-")
+
+
+def write(header, kind, body, room, fill=0xEE):
+    asked = record(header, HEADER) + [(kind, 2)] + record(body, BODY) + [(room, 2), (fill, 2)]
+    return line("w", *asked), "w" + writing(header, kind, body, room, fill)
+
+
+def less_fraction(correction, f):
+    less = signed(correction, 64) - f
+    return less % 2**64 if -(2**63) <= less < 2**63 else None
+
+
+def sent_values(request, kind, us, own_id, interval, time):
+    """Header and body of a sent message, or None where a field of it leaves its range."""
+    ns, rest = divmod(time, NS)
+    seconds, nanos = divmod(ns, 10**9)
+    f = rest // 2**16
+    values = {"major": us["sdo"] // 256, "minor_sdo": us["sdo"] % 256, "type": kind, "version": 2}
+    values |= {name: us[name] for name in ("minor", "domain", "clock", "port")}
+    values |= {"length": TABLE[kind][1], "flags": 0x0200 if kind in (0, 3) else 0}
+    values["interval"] = interval if kind in (0, 8, 9) else 0x7F
+    values["id"] = request["id"] if kind in (3, 9) else own_id
+    less = less_fraction(request["correction"], f)
+    values["correction"] = {3: less, 8: f, 9: less, 10: f}.get(kind, 0)
+    stamped = kind in (3, 8, 9, 10)
+    body = {"seconds": seconds if stamped else 0, "nanos": nanos if stamped else 0}
+    body |= {"clock": request["clock"], "port": request["port"]}
+    if values["correction"] is None or body["seconds"] >= 2**48:
+        return None
+    return values, body
+
+
+def sent(request, kind, us, own_id=0x1234, interval=0xFD, time=0):
+    asked = record(request, HEADER) + [(kind, 2)] + record(us, SENDER)
+    asked += [(own_id, 4), (interval, 2), (time >> 64, 16), (time % 2**64, 16)]
+    made = sent_values(request, kind, us, own_id, interval, time)
+    said = " 7" if made is None else " 0" + writing(made[0], kind, made[1], SENT_ROOM, 0xEE)
+    return line("s", *asked), "s" + said
+
+
+def two_step(flags):
+    """Whether the bit 0x02 of byte 6, the first of the two, is set."""
+    return line("f", *record(plain(0, flags=flags), HEADER)), f"f {flags.to_bytes(2, 'big')[0] // 2 % 2}"
+
+
+def kind_of(n):
+    if n in TABLE:
+        control, length, _ = TABLE[n]
+        return line("k", (n, 2)), "k 0" + told(n, control, length)
+    return line("k", (n, 2)), "k 8" if n in HOST else "k 5"
+
+
+def less(correction, f):
+    value = less_fraction(correction, f)
+    return line("l", (correction, 16), (f, 4)), "l 7" if value is None else "l 0" + told(value)
+
+
+# What is asked.
+
+CLOCK = 0x0123_4567_89AB_CDEF
+PLAIN = {"major": 1, "minor": 1, "version": 2, "domain": 0x2A, "minor_sdo": 0x5B, "flags": 0x0200}
+PLAIN |= {"correction": 0xFFFF_FFFF_FFFE_8001, "clock": CLOCK, "port": 0x8001, "id": 0xBEEF, "interval": 0xFB}
+STAMPED = {"seconds": 0x0123_4567_89AB, "nanos": 0x3B9A_C9FF, "clock": 0xFEDC_BA98_7654_3210, "port": 0x4321}
+US = {"sdo": 0x123, "domain": 0x7F, "minor": 1, "clock": 0xA1B2_C3FF_FED4_E5F6, "port": 0x0203}
+TYPES = sorted(TABLE)
+
+
+def plain(kind, **other):
+    """A header for a type, whose stated length is the table's where there is one."""
+    return {"type": kind, "length": TABLE[kind][1] if kind in TABLE else 64} | PLAIN | other
+
+
+def bytes_for(kind, size, stated=None, first=0x11, version=0x12):
+    """So many bytes of a message, no two alike, with the type, version and stated length asked for."""
+    message = bytearray((first + 7 * i) % 256 for i in range(size))
+    front = bytes([0xC0 + kind, version]) + (size if stated is None else stated).to_bytes(2, "big")
+    message[: min(4, size)] = front[:size]
+    return bytes(message)
+
+
+def changed(message, at, *values):
+    return message[:at] + bytes(values) + message[at + len(values) :]
+
+
+def read_questions():
+    for kind in range(16):
+        for size in (33, 34, 43, 44, 53, 54):
+            yield read(bytes_for(kind, size))
+        for stated in (33, 34, 43, 44, 53, 54, 55, 65):
+            yield read(bytes_for(kind, 64, stated))
+        for size in (44, 54):
+            yield read(bytes_for(kind, size, size + 1))
+    for kind in (0, 3, 4, 13):
+        for size in (0, 1, 2, 3, 45, 55, 127, 128):
+            yield read(bytes_for(kind, size))
+        for stated in (0, 1, 0x3400, 0x8000, 0xFFFF):
+            yield read(bytes_for(kind, 64, stated))
+    # versions, in bytes of each length that a row looks at; row 4 comes before row 5
+    for version in (0x00, 0x01, 0x02, 0x03, 0x12, 0x13, 0x20, 0x22, 0xA2, 0xF2, 0xFF):
+        for size in (2, 33, 44):
+            yield read(bytes_for(0, size, None, 0x80, version))
+        yield read(bytes_for(4, 44, 33, 0x80, version))
+    # a version that stands in the first byte that is not lent
+    yield read(b"\x00", 2)
+    yield read(b"", 2)
+    for kind in TYPES:
+        for message in (bytes(64), b"\xff" * 64):
+            yield read(changed(message, 0, kind, 2, 0, 64))
+        yield from read_values(kind, kind in (0, 2))
+
+
+def read_values(kind, every):
+    """A message of a type with each of its fields at its ends; for some types every number that is of interest."""
+    length = TABLE[kind][1]
+    whole = bytes_for(kind, 64, length)
+    # what is not read: reserved bytes, control, all behind the body
+    unread = (*range(16, 20), 32, *range(length, 64))
+    other = bytearray(whole)
+    for at in unread:
+        other[at] ^= 0xFF
+        if every:
+            yield read(changed(whole, at, 0))
+    yield read(bytes(other))
+    for flags in (*(2**n for n in range(16)), 0, 0xFFFF) if every else (0x0200, 0xFDFF):
+        yield read(changed(whole, 6, *flags.to_bytes(2, "big")))
+    for correction in (0, 1, 2**16, 2**63 - 1, 2**63, 2**63 + 1, 2**64 - 1) if every else (2**63 - 1, 2**63):
+        yield read(changed(whole, 8, *correction.to_bytes(8, "big")))
+    for seconds in (0, 1, 2**32 - 1, 2**32, 2**47, 2**48 - 1) if every else (0, 2**48 - 1):
+        for nanos in (0, 10**9 - 1, 10**9, 2**32 - 1):
+            yield read(changed(whole, 34, *seconds.to_bytes(6, "big"), *nanos.to_bytes(4, "big")))
+
+
+def write_questions():
+    for kind in TYPES:
+        length = TABLE[kind][1]
+        fit = plain(kind)
+        every = kind in (0, 9)
+        for room in (0, 1, 33, 34, length - 1, length, length + 1, 64, 128) if every else (length - 1, length, 64):
+            yield write(fit, kind, STAMPED, room, 0x00 if room == length else 0xA5)
+        for version in (0, 1, 3, 18, 255) if every else (1,):
+            yield write(fit | {"version": version}, kind, STAMPED, 64)
+        for other in (0, 1, 2, 3, 4, 8, 9, 10, 11, 16, 25, 255) if every else (kind ^ 1, kind + 16):
+            yield write(fit | {"type": other}, kind, STAMPED, 64)
+        for stated in (0, 34, 43, 44, 45, 53, 54, 55, length + 256) if every else (44, 54, length + 256):
+            yield write(fit | {"length": stated}, kind, STAMPED, 64)
+        for name in ("major", "minor"):
+            for n in (0, 15, 16, 17, 255) if every else (15, 16):
+                yield write(fit | {name: n}, kind, STAMPED, 64)
+        for seconds in (0, 2**48 - 1, 2**48, 2**48 + 1, 2**64 - 1) if every else (2**48 - 1, 2**48):
+            yield write(fit, kind, STAMPED | {"seconds": seconds}, 64)
+        # refused for both reasons: unfit comes first
+        yield write(fit | {"version": 1}, kind, STAMPED, 0)
+        yield write(fit | {"major": 16}, kind, STAMPED, length - 1)
+        for name in ("domain", "minor_sdo", "flags", "correction", "clock", "port", "id", "interval"):
+            yield write(fit | {name: 0}, kind, STAMPED, length)
+        for name, n in (("nanos", 0), ("nanos", 10**9), ("nanos", 2**32 - 1), ("clock", 0), ("port", 0xFFFF)):
+            yield write(fit, kind, STAMPED | {name: n}, length)
+
+
+def sent_questions():
+    second = 10**9 * NS
+    times = (0, 1, 0xFFFF, 0x1_0000, 0x1_FFFF, NS - 1, NS, 999_999_999 * NS + 0xABCD_EF01, second - 1, second)
+    times += (2**47 * second, 2**48 * second - 1, 2**48 * second, 2**127 - 1, 2**127, 2**128 - 1)
+    half = 1_700_000_000 * second + 123_456_789 * NS + 0x8000_0000
+    # at a fraction f: the lowest correction that stays within 64 bits less f, the highest that leaves them
+    edges = [(c, f) for f in (1, 2, 0xFFFE, 0xFFFF) for c in (2**63 + f, 2**63 + f - 1, 2**63, f, f - 1)]
+    edges += [(c, f) for f in (0, 0x8000) for c in (0, 1, 2**63 - 1, 2**63, 2**64 - 1)]
+    for c, f in edges:
+        yield less(c, f)
+        for kind in (3, 9):
+            yield sent(plain(1, correction=c), kind, US, 0, 0, half // NS * NS + f * 2**16 + 0xFFFF)
+    for kind in TYPES:
+        request = plain(2 if kind in (3, 10) else 1)
+        for time in times:
+            yield sent(request, kind, US, 7, 1, time)
+        # past 4095 and 15 the writer has no place for them
+        for sdo in (0, 1, 255, 256, 0xABC, 0xFFF, 0x1000, 0xFFFF):
+            yield sent(request, kind, US | {"sdo": sdo}, 8, 2, half)
+        for minor in (0, 15, 16):
+            yield sent(request, kind, US | {"minor": minor}, 9, 3, half)
+        for own_id, interval in ((0, 0), (1, 0xF7), (0xFFFF, 16), (0x8000, 0x7F)):
+            yield sent(request, kind, US, own_id, interval, half)
+        for name in ("domain", "clock", "port"):
+            yield sent(request, kind, US | {name: 0}, time=half)
+        # of a request only the id, the source and the correction are used
+        for n in range(2):
+            yield sent({name: n * (16**digits - 1) for name, digits in HEADER.items()}, kind, US, time=half)
+    for kind in (4, 11, 255):
+        asked = record(plain(1), HEADER) + [(kind, 2)] + record(US, SENDER) + [(0, 4), (0, 2), (0, 16), (0, 16)]
+        yield line("s", *asked), "s ?"
+    yield line("x", (0, 2)), "x ?"
+
+
+def drawn_questions():
+    """Numbers of every size, by a fixed seed."""
+    draw = random.Random(1588)
+    bits = lambda digits: draw.getrandbits(draw.randint(1, 4 * digits))
+    for _ in range(65):
+        kind = draw.choice(TYPES)
+        length = TABLE[kind][1]
+        header = {name: bits(digits) for name, digits in HEADER.items()}
+        body = {name: bits(digits) for name, digits in BODY.items()} | {"seconds": draw.getrandbits(48)}
+        us = {name: bits(digits) for name, digits in SENDER.items()}
+        us |= {"sdo": us["sdo"] % 4096, "minor": draw.randint(0, 1)}
+        good = {"type": kind, "version": 2, "length": length, "major": draw.randint(0, 15), "minor": draw.randint(0, 15)}
+        yield write(header | good, kind, body, draw.randint(length - 2, MOST), draw.randint(0, 255))
+        yield sent(header, kind, us, bits(4), bits(2), draw.getrandbits(draw.randint(60, 111)))
+        yield less(draw.choice([bits(16), 2**63 + bits(4)]), bits(4))
+        message = bytearray(draw.randbytes(draw.randint(30, MOST)))
+        message[0] = draw.randint(0, 15) * 16 + draw.choice((kind, kind, kind, draw.randint(0, 15)))
+        message[1] = draw.randint(0, 15) * 16 + draw.choice((2, 2, 2, 2, 2, 2, 2, draw.randint(0, 15)))
+        stated = draw.choice((length, len(message), draw.randint(length, MOST), draw.randint(30, 60)))
+        yield read(changed(bytes(message), 2, 0, stated))
+
+
+def questions():
+    yield from read_questions()
+    yield from write_questions()
+    yield from sent_questions()
+    for n in (*range(18), 127, 128, 136, 255):
+        yield kind_of(n)
+    for flags in (*(2**n for n in range(16)), 0, 0x0300, 0x0600, 0xFDFF, 0xFFFF):
+        yield two_step(flags)
+    yield from drawn_questions()
+
+
+def main():
+    asked = list(questions())
+    folder = Path(__file__).resolve().parent.parent / "crates" / "wire_vectors"
+    made = {"stdin": "".join(q for q, _ in asked), "stdout": "".join(a + "\n" for _, a in asked)}
+    for name, text in made.items():
+        if sys.argv[1:] == ["--check"]:
+            if (folder / name).read_text() != text:
+                sys.exit(f"{name} is not what this script writes")
+        else:
+            (folder / name).write_text(text)
+    print(f"{len(asked)} questions")
+
+
+if __name__ == "__main__":
+    main()
