@@ -26,16 +26,16 @@ use Rattle.sent.specs.Laws.{inCorrection, IsCorrection, correction-is, c
 
 -- ---- a stamp's numbers
 
-abbrev pub units : Time → ℕ
-units t = spelled (t .hi) (t .lo)
+abbrev pub unitsOf : Time → ℕ
+unitsOf t = spelled (t .hi) (t .lo)
 
 -- f: the fraction of a nanosecond in 2 ^ -16 ns
 abbrev pub fractionOf : Time → ℕ
-fractionOf t = units t % 2 ^ 32 / 2 ^ 16
+fractionOf t = unitsOf t % 2 ^ 32 / 2 ^ 16
 
 -- what is left of n units without the fraction's low 16 bits
-abbrev pub cut : ℕ → ℕ
-cut n = n / 2 ^ 16 * 2 ^ 16
+abbrev pub cutTo16 : ℕ → ℕ
+cutTo16 n = n / 2 ^ 16 * 2 ^ 16
 
 -- the units of 2 ^ 48 seconds, too many from there on
 abbrev pub lateFrom : ℕ
@@ -61,15 +61,15 @@ fraction-from (W.Value v f) w c e =
 fraction-from W.Out w c e = absurd (apart cc)
 
 module _ (t : Time) (w : WireTimestamp) (c : ℕ) (e : followStamp t ≡ S.Value w c) where
-  follow-sent : Sent (units t) w c
+  follow-sent : Sent (unitsOf t) w c
   unfolding followStamp time
-  follow-sent = wire-is (units t) w c (fraction-from (wireOf (time t)) w c e)
+  follow-sent = wire-is (unitsOf t) w c (fraction-from (wireOf (time t)) w c e)
 
   pub follow-room : HasRoom w c
   follow-room = record { seconds = follow-sent .seconds; nanos = follow-sent .nanos; correction = lt-trans (follow-sent .fraction) (lit< tt) }
 
   -- timestamp and correction together are the stamp, cut
-  pub follow-means : wire w +ℤ correction c ≡ pos (cut (units t))
+  pub follow-means : wire w +ℤ correction c ≡ pos (cutTo16 (unitsOf t))
   follow-means = follow-sent .cut
 
 -- where an answer's two parts come from
@@ -120,9 +120,9 @@ module _ (request : Header) (t : Time) (w : WireTimestamp) (c : ℕ) (e : answer
   unfolding answerStamp
   parts = less-from asked (wireOf (time t)) w c e
 
-  answer-sent : Sent (units t) w (parts .f)
+  answer-sent : Sent (unitsOf t) w (parts .f)
   unfolding time
-  answer-sent = wire-is (units t) w (parts .f) (parts .stamp)
+  answer-sent = wire-is (unitsOf t) w (parts .f) (parts .stamp)
 
   answer-correction : IsCorrection (signed 64 asked -ℤ pos (parts .f)) c
   answer-correction = correction-is (signed 64 asked -ℤ pos (parts .f)) c (parts .less)
@@ -131,12 +131,12 @@ module _ (request : Header) (t : Time) (w : WireTimestamp) (c : ℕ) (e : answer
   answer-room = record { seconds = answer-sent .seconds; nanos = answer-sent .nanos; correction = answer-correction .small }
 
   -- timestamp less correction, as the requester takes them, is the stamp, cut, less the request's own correction
-  pub answer-means : wire w -ℤ correction c ≡ pos (cut (units t)) -ℤ correction asked
+  pub answer-means : wire w -ℤ correction c ≡ pos (cutTo16 (unitsOf t)) -ℤ correction asked
   unfolding wire correction
   answer-means =
       let x : ℕ = (w .seconds * 10 ^ 9 + w .nanos) * 2 ^ 32 in
-      let low : signed 64 (parts .f) ≡ pos (parts .f) = signed-low 64 (parts .f) (lt-trans (answer-sent .fraction) (lit< tt)) in
-      let whole : pos (x + parts .f * 65536) ≡ pos (cut (units t)) = ap (λ (z : ℤ). pos x +ℤ z *ℤ pos 65536) (sym low) ∙ answer-sent .cut in
+      let lowHalf : signed 64 (parts .f) ≡ pos (parts .f) = signed-low 64 (parts .f) (lt-trans (answer-sent .fraction) (lit< tt)) in
+      let whole : pos (x + parts .f * 65536) ≡ pos (cutTo16 (unitsOf t)) = ap (λ (z : ℤ). pos x +ℤ z *ℤ pos 65536) (sym lowHalf) ∙ answer-sent .cut in
       ap (λ (z : ℤ). pos x -ℤ z *ℤ pos 65536) (answer-correction .value)
       ∙ scaled x (parts .f) (signed 64 asked)
       ∙ ap (λ (z : ℤ). z -ℤ correction asked) whole
@@ -145,32 +145,32 @@ module _ (request : Header) (t : Time) (w : WireTimestamp) (c : ℕ) (e : answer
 
 -- whole seconds, and the whole nanoseconds of the last
 abbrev pub stampOf : Time → WireTimestamp
-stampOf t = record { seconds = units t / 2 ^ 32 / 10 ^ 9; nanos = units t / 2 ^ 32 % 10 ^ 9 }
+stampOf t = record { seconds = unitsOf t / 2 ^ 32 / 10 ^ 9; nanos = unitsOf t / 2 ^ 32 % 10 ^ 9 }
 
-pub follow-timely : (t : Time) → units t < lateFrom → followStamp t ≡ S.Value (stampOf t) (fractionOf t)
+pub follow-timely : (t : Time) → unitsOf t < lateFrom → followStamp t ≡ S.Value (stampOf t) (fractionOf t)
 unfolding followStamp time
-follow-timely t h = ap fraction (wire-sent (units t) h)
+follow-timely t h = ap fraction (wire-sent (unitsOf t) h)
 
-pub follow-out-when : (t : Time) → lateFrom ≤ units t → followStamp t ≡ S.Out
+pub follow-out-when : (t : Time) → lateFrom ≤ unitsOf t → followStamp t ≡ S.Out
 unfolding followStamp time
-follow-out-when t h = ap fraction (wire-out (units t) h)
+follow-out-when t h = ap fraction (wire-out (unitsOf t) h)
 
 fraction-out : (a : WireAnswer) → fraction a ≡ S.Out → a ≡ W.Out
 fraction-out (W.Value w f) e = absurd (apart cc)
 fraction-out W.Out e = refl
 
-pub follow-out-is : (t : Time) → followStamp t ≡ S.Out → lateFrom ≤ units t
+pub follow-out-is : (t : Time) → followStamp t ≡ S.Out → lateFrom ≤ unitsOf t
 unfolding followStamp time
-follow-out-is t e = wire-out-is (units t) (fraction-out (wireOf (time t)) e)
+follow-out-is t e = wire-out-is (unitsOf t) (fraction-out (wireOf (time t)) e)
 
 -- an answer may be too late too, and where it is not its correction may leave 64 bits
-pub answer-timely : (request : Header) (t : Time) → units t < lateFrom → answerStamp request t ≡ withCorrection (stampOf t) (correctionOf (lessOf request t))
+pub answer-timely : (request : Header) (t : Time) → unitsOf t < lateFrom → answerStamp request t ≡ withCorrection (stampOf t) (correctionOf (lessOf request t))
 unfolding answerStamp time
-answer-timely request t h = ap (lessFraction (request .correction)) (wire-sent (units t) h)
+answer-timely request t h = ap (lessFraction (request .correction)) (wire-sent (unitsOf t) h)
 
-answer-late : (request : Header) (t : Time) → lateFrom ≤ units t → answerStamp request t ≡ S.Out
+answer-late : (request : Header) (t : Time) → lateFrom ≤ unitsOf t → answerStamp request t ≡ S.Out
 unfolding answerStamp time
-answer-late request t h = ap (lessFraction (request .correction)) (wire-out (units t) h)
+answer-late request t h = ap (lessFraction (request .correction)) (wire-out (unitsOf t) h)
 
 with-out : (w : WireTimestamp) (k : CorrectionAnswer) → withCorrection w k ≡ S.Out → k ≡ C.Out
 with-out w (C.Value c) e = absurd (apart cc)
@@ -178,19 +178,19 @@ with-out w C.Out e = refl
 
 module _ (request : Header) (t : Time) where
   abbrev pub Unanswered : Type 0
-  Unanswered = (lateFrom ≤ units t) ⊎ (inCorrection (lessOf request t) ≡ false)
+  Unanswered = (lateFrom ≤ unitsOf t) ⊎ (inCorrection (lessOf request t) ≡ false)
 
   pub answer-out-when : Unanswered → answerStamp request t ≡ S.Out
   answer-out-when (inl h) = answer-late request t h
-  answer-out-when (inr h) = go (decLt (units t) lateFrom)
+  answer-out-when (inr h) = go (decLt (unitsOf t) lateFrom)
     where
-      go : Dec (units t < lateFrom) → answerStamp request t ≡ S.Out
+      go : Dec (unitsOf t < lateFrom) → answerStamp request t ≡ S.Out
       go (yes k) = answer-timely request t k ∙ ap (withCorrection (stampOf t)) (correction-out-when (lessOf request t) h)
-      go (no k) = answer-late request t (not-below (units t) lateFrom k)
+      go (no k) = answer-late request t (not-below (unitsOf t) lateFrom k)
 
   pub answer-out-is : answerStamp request t ≡ S.Out → Unanswered
-  answer-out-is e = go (decLt (units t) lateFrom)
+  answer-out-is e = go (decLt (unitsOf t) lateFrom)
     where
-      go : Dec (units t < lateFrom) → Unanswered
+      go : Dec (unitsOf t < lateFrom) → Unanswered
       go (yes k) = inr (correction-out-is (lessOf request t) (with-out (stampOf t) (correctionOf (lessOf request t)) (sym (answer-timely request t k) ∙ e)))
-      go (no k) = inl (not-below (units t) lateFrom k)
+      go (no k) = inl (not-below (unitsOf t) lateFrom k)

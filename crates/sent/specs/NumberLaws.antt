@@ -21,7 +21,7 @@ use Rattle.sent.specs.declared.Carried.the-variants as S
 use Rattle.sent.specs.Messages.{word, correctionOf, withCorrection, answerStamp, followStamp, carrying, followUpOf, pDelayRespOf, delayRespOf, pDelayRespFollowUpOf}
 use Rattle.sent.specs.Numbers.{correctionNumber, carriedNumber, messageNumber}
 use Rattle.sent.specs.Laws.{inCorrection}
-use Rattle.sent.specs.CarriedLaws.{units, lateFrom, lessOf, stampOf, follow-timely, follow-out-when, answer-timely, answer-out-when}
+use Rattle.sent.specs.CarriedLaws.{unitsOf, lateFrom, lessOf, stampOf, follow-timely, follow-out-when, answer-timely, answer-out-when}
 
 picked : (b : Bool) (c : ℕ) → correctionNumber (cond b (C.Value c) C.Out) ≡ cond b 0 7
 picked true c = refl
@@ -31,29 +31,29 @@ pub correction-number : (z : ℤ) → correctionNumber (correctionOf z) ≡ cond
 unfolding correctionOf
 correction-number z = picked (inCorrection z) (word z)
 
-pub follow-number : (t : Time) → carriedNumber (followStamp t) ≡ cond (ltb (units t) lateFrom) 0 7
-follow-number t = go (decLt (units t) lateFrom)
+pub follow-number : (t : Time) → carriedNumber (followStamp t) ≡ cond (ltb (unitsOf t) lateFrom) 0 7
+follow-number t = go (decLt (unitsOf t) lateFrom)
   where
-    go : Dec (units t < lateFrom) → carriedNumber (followStamp t) ≡ cond (ltb (units t) lateFrom) 0 7
-    go (yes h) = rw (lt-ltb (units t) lateFrom h) (ap carriedNumber (follow-timely t h))
+    go : Dec (unitsOf t < lateFrom) → carriedNumber (followStamp t) ≡ cond (ltb (unitsOf t) lateFrom) 0 7
+    go (yes h) = rw (lt-ltb (unitsOf t) lateFrom h) (ap carriedNumber (follow-timely t h))
     go (no h) =
-        let k = not-below (units t) lateFrom h in
-        rw (le-ltb (units t) lateFrom k) (ap carriedNumber (follow-out-when t k))
+        let k = not-below (unitsOf t) lateFrom h in
+        rw (le-ltb (unitsOf t) lateFrom k) (ap carriedNumber (follow-out-when t k))
 
 with-number : (w : WireTimestamp) (k : CorrectionAnswer) → carriedNumber (withCorrection w k) ≡ correctionNumber k
 with-number w (C.Value c) = refl
 with-number w C.Out = refl
 
-pub answer-number : (request : Header) (t : Time) → carriedNumber (answerStamp request t) ≡ cond (ltb (units t) lateFrom) (cond (inCorrection (lessOf request t)) 0 7) 7
-answer-number request t = go (decLt (units t) lateFrom)
+pub answer-number : (request : Header) (t : Time) → carriedNumber (answerStamp request t) ≡ cond (ltb (unitsOf t) lateFrom) (cond (inCorrection (lessOf request t)) 0 7) 7
+answer-number request t = go (decLt (unitsOf t) lateFrom)
   where
-    go : Dec (units t < lateFrom) → carriedNumber (answerStamp request t) ≡ cond (ltb (units t) lateFrom) (cond (inCorrection (lessOf request t)) 0 7) 7
+    go : Dec (unitsOf t < lateFrom) → carriedNumber (answerStamp request t) ≡ cond (ltb (unitsOf t) lateFrom) (cond (inCorrection (lessOf request t)) 0 7) 7
     go (yes h) =
-        rw (lt-ltb (units t) lateFrom h)
+        rw (lt-ltb (unitsOf t) lateFrom h)
         (ap carriedNumber (answer-timely request t h) ∙ with-number (stampOf t) (correctionOf (lessOf request t)) ∙ correction-number (lessOf request t))
     go (no h) =
-        let k = not-below (units t) lateFrom h in
-        rw (le-ltb (units t) lateFrom k) (ap carriedNumber (answer-out-when request t (inl k)))
+        let k = not-below (unitsOf t) lateFrom h in
+        rw (le-ltb (unitsOf t) lateFrom k) (ap carriedNumber (answer-out-when request t (inl k)))
 
 -- ---- the messages
 
@@ -62,18 +62,18 @@ carrying-number (S.Value w c) message = refl
 carrying-number S.Out message = refl
 
 module _ (s : Sender) where
-  pub follow-up-number : (id syncInterval : ℕ) (t : Time) → messageNumber (followUpOf s id syncInterval t) ≡ cond (ltb (units t) lateFrom) 0 7
+  pub follow-up-number : (id syncInterval : ℕ) (t : Time) → messageNumber (followUpOf s id syncInterval t) ≡ cond (ltb (unitsOf t) lateFrom) 0 7
   unfolding followUpOf
   follow-up-number id syncInterval t = carrying-number (followStamp t) _ ∙ follow-number t
 
-  pub pdelay-resp-number : (request : Header) (t : Time) → messageNumber (pDelayRespOf s request t) ≡ cond (ltb (units t) lateFrom) (cond (inCorrection (lessOf request t)) 0 7) 7
+  pub pdelay-resp-number : (request : Header) (t : Time) → messageNumber (pDelayRespOf s request t) ≡ cond (ltb (unitsOf t) lateFrom) (cond (inCorrection (lessOf request t)) 0 7) 7
   unfolding pDelayRespOf
   pdelay-resp-number request t = carrying-number (answerStamp request t) _ ∙ answer-number request t
 
-  pub delay-resp-number : (request : Header) (delayInterval : ℕ) (t : Time) → messageNumber (delayRespOf s request delayInterval t) ≡ cond (ltb (units t) lateFrom) (cond (inCorrection (lessOf request t)) 0 7) 7
+  pub delay-resp-number : (request : Header) (delayInterval : ℕ) (t : Time) → messageNumber (delayRespOf s request delayInterval t) ≡ cond (ltb (unitsOf t) lateFrom) (cond (inCorrection (lessOf request t)) 0 7) 7
   unfolding delayRespOf
   delay-resp-number request delayInterval t = carrying-number (answerStamp request t) _ ∙ answer-number request t
 
-  pub pdelay-resp-follow-up-number : (id : ℕ) (requester : Identity) (t : Time) → messageNumber (pDelayRespFollowUpOf s id requester t) ≡ cond (ltb (units t) lateFrom) 0 7
+  pub pdelay-resp-follow-up-number : (id : ℕ) (requester : Identity) (t : Time) → messageNumber (pDelayRespFollowUpOf s id requester t) ≡ cond (ltb (unitsOf t) lateFrom) 0 7
   unfolding pDelayRespFollowUpOf
   pdelay-resp-follow-up-number id requester t = carrying-number (followStamp t) _ ∙ follow-number t

@@ -18,7 +18,7 @@ use Rattle.wire.specs.declared.MessageType.the-variants as M
 use Rattle.wire.specs.declared.Body.{Body}
 use Rattle.wire.specs.declared.Body.the-variants as B
 use Rattle.wire.specs.declared.Reading.the-variants as G
-use Rattle.wire.specs.Layout.{row, body, typeOf, timestampOf, restOf, restEntries, headerEntries, identityEntries, timestampEntries, bodyEntries, messageEntries, messageBytes, twoStepFlag}
+use Rattle.wire.specs.Layout.{row, body, typeOf, timestampOf, restIn, restEntries, headerEntries, identityEntries, timestampEntries, bodyEntries, messageEntries, messageBytes, twoStepFlag}
 use Rattle.wire.specs.Reading.{readOf}
 use Rattle.wire.specs.BytesLaws.{apart, Fits}
 use Rattle.wire.specs.LayoutLaws.{length-message, row-small}
@@ -67,14 +67,14 @@ length-small M.PDelayRespFollowUp = lit< tt
 pub header-fits : (s : Sender) (t : MessageType) (b : Body) (flags correction id interval : ℕ) → InLimits s → typeOf b ≡ t → Fits (bodyEntries body b) → flags < 2 ^ 16 → correction < 2 ^ 64 → id < 2 ^ 16 → interval < 256 → fitsOf (headerFor s t flags correction id interval) b ≡ true
 unfolding headerFor messageEntries headerEntries identityEntries
 header-fits s t b flags correction id interval l same f g c i v =
-    let (high, low) = sdo-halves (s .sdo) (l .sdo) in
+    let (highHalf, lowHalf) = sdo-halves (s .sdo) (l .sdo) in
     fits-when (headerFor s t flags correction id interval) b record {
       version = refl;
       number-is = ap (λ (x : MessageType). row x .number) (sym same);
       length-is = ap (λ (x : MessageType). row x .length) (sym same);
-      major = high;
+      major = highHalf;
       minor = l .minor;
-      each = (halves-small (s .sdo / 256) (row t .number) high (row-small t .0), (halves-small (s .minor) 2 (l .minor) (lit< tt), (length-small t, (l .domain, (low, (g, (c, (lit< tt, (l .identity .clock, (l .identity .port, (i, (row-small (typeOf b) .1, (v, f)))))))))))));
+      each = (halves-small (s .sdo / 256) (row t .number) highHalf (row-small t .0), (halves-small (s .minor) 2 (l .minor) (lit< tt), (length-small t, (l .domain, (lowHalf, (g, (c, (lit< tt, (l .identity .clock, (l .identity .port, (i, (row-small (typeOf b) .1, (v, f)))))))))))));
     }
 
 -- ---- what is made can be sent
@@ -112,7 +112,7 @@ unfolding identityEntries
 requester-fits at i w = (w .clock, (w .port, tt))
 
 module _ (s : Sender) (l : InLimits s) where
-  sends : (b : Body) (flags correction id interval : ℕ) → HasRoom (timestampOf b) correction → Fits (restEntries (body + 10) (restOf b)) → flags < 2 ^ 16 → id < 2 ^ 16 → interval < 256 → Sendable (record { header = headerFor s (typeOf b) flags correction id interval; body = b }) (row (typeOf b) .length)
+  sends : (b : Body) (flags correction id interval : ℕ) → HasRoom (timestampOf b) correction → Fits (restEntries (body + 10) (restIn b)) → flags < 2 ^ 16 → id < 2 ^ 16 → interval < 256 → Sendable (record { header = headerFor s (typeOf b) flags correction id interval; body = b }) (row (typeOf b) .length)
   unfolding bodyEntries timestampEntries
   sends b flags correction id interval n rest f i v =
       let h : Header = headerFor s (typeOf b) flags correction id interval in

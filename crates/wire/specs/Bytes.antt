@@ -30,8 +30,8 @@ abbrev pub _for_ : ℕ → ℕ → Place
 a for w = record { at = a; width = w }
 
 -- what stands at a place
-abbrev pub field : Place → List ℕ → ℕ
-field p l = number (p .at) (p .width) l
+abbrev pub fieldAt : Place → List ℕ → ℕ
+fieldAt p l = number (p .at) (p .width) l
 
 -- a place and the number that is written there
 pub record Entry : Type 0 where
@@ -53,9 +53,9 @@ roomy [] = true
 roomy (e ∷ es) = ltb (e .value) (256 ^ e .place .width) && roomy es
 
 -- how many bytes a table has
-unfoldable pub size : List Entry → ℕ
-size [] = 0
-size (e ∷ es) = e .place .width + size es
+unfoldable pub sizeOf : List Entry → ℕ
+sizeOf [] = 0
+sizeOf (e ∷ es) = e .place .width + sizeOf es
 
 -- a table has neither gap nor overlap: its first entry starts at n, and each where the one before it ends
 unfoldable pub tiles : ℕ → List Entry → Bool

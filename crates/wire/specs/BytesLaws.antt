@@ -10,7 +10,7 @@ use lib.ListN.{length, getD, set, take, drop, length-append, length-drop, List·
 use lib.Seq.{sets, sets-eq, set-comm, getD-append-add, getD-at, getD-set-other, getD-drop, take-suc, take-add, drop-drop}
 use lib.Dec.{eqb, ltb}
 use borrow.Author.Tests.{eqb-true, ltb-true, lt-ltb}
-use Rattle.wire.specs.Bytes.{Entry, number, spell, put, puts, bytesOf, tiles, size, roomy, field}
+use Rattle.wire.specs.Bytes.{Entry, number, spell, put, puts, bytesOf, tiles, sizeOf, roomy, fieldAt}
 
 -- m bytes and the n behind them, read as one number
 pub number-joined : (at m n : ℕ) (l : List ℕ) → number at (m + n) l ≡ number at m l * 256 ^ n + number (at + m) n l
@@ -65,8 +65,8 @@ put-low at w v l =
     let e : spell (0 + w) (v / 256 ^ w * 256 ^ w + v % 256 ^ w) ≡ spell w (v % 256 ^ w) = spell-joined 0 w (v / 256 ^ w) (v % 256 ^ w) h in
     ap (sets l at) (sym (simp (zero-add, div-add-mod') at e))
 
-pub length-bytesOf : (es : List Entry) → length (bytesOf es) ≡ size es
-unfolding bytesOf size
+pub length-bytesOf : (es : List Entry) → length (bytesOf es) ≡ sizeOf es
+unfolding bytesOf sizeOf
 length-bytesOf [] = refl
 length-bytesOf (e ∷ es) = omega (arith, length-append (spell (e .place .width) (e .value)) (bytesOf es), length-spell (e .place .width) (e .value), length-bytesOf es)
 
@@ -91,9 +91,9 @@ puts-run n (e ∷ es) l h =
     rw (eqb-true (e .place .at) n (t .0), sets-joined, length-spell) (puts-run (n + e .place .width) es (sets l n (spell (e .place .width) (e .value))) (t .1))
 
 -- and that is the bytes, then what stood behind them
-pub written : (es : List Entry) (l : List ℕ) → tiles 0 es ≡ true → size es ≤ length l → puts es l ≡ bytesOf es ++ drop (size es) l
+pub written : (es : List Entry) (l : List ℕ) → tiles 0 es ≡ true → sizeOf es ≤ length l → puts es l ≡ bytesOf es ++ drop (sizeOf es) l
 written es l t h =
-    let e : length (bytesOf es) ≡ size es = length-bytesOf es in
+    let e : length (bytesOf es) ≡ sizeOf es = length-bytesOf es in
     puts-run 0 es l t ∙ sets-eq (bytesOf es) l 0 (omega arith) ∙ ap (λ (k : ℕ). bytesOf es ++ drop k l) (zero-add (length (bytesOf es)) ∙ e)
 
 pub puts-append : (a b : List Entry) (l : List ℕ) → puts (a ++ b) l ≡ puts b (puts a l)
@@ -144,7 +144,7 @@ fits-roomy (e ∷ es) (f, fs) = simp (lt-ltb (e .value) (256 ^ e .place .width) 
 -- at each place of l stands the entry's value
 abbrev pub Reads : List Entry → List ℕ → Type 0
 Reads [] l = Unit {0}
-Reads (e ∷ es) l = (field (e .place) l ≡ e .value) × Reads es l
+Reads (e ∷ es) l = (fieldAt (e .place) l ≡ e .value) × Reads es l
 
 pub fits-parts : (a b : List Entry) → Fits (a ++ b) → Fits a × Fits b
 fits-parts [] b f = (tt, f)
@@ -218,15 +218,15 @@ bytesOf-append [] b = refl
 bytesOf-append (e ∷ a) b = rw (bytesOf-append a b, append-assoc) refl
 
 -- a table that is read off l, written again, gives l's bytes
-pub reads-copied : (n : ℕ) (es : List Entry) (l : List ℕ) → tiles n es ≡ true → Reads es l → ((i : ℕ) → getD l i 0 < 256) → n + size es ≤ length l → bytesOf es ≡ take (size es) (drop n l)
-unfolding tiles bytesOf size
+pub reads-copied : (n : ℕ) (es : List Entry) (l : List ℕ) → tiles n es ≡ true → Reads es l → ((i : ℕ) → getD l i 0 < 256) → n + sizeOf es ≤ length l → bytesOf es ≡ take (sizeOf es) (drop n l)
+unfolding tiles bytesOf sizeOf
 reads-copied n [] l t r b h = refl
 reads-copied n (e ∷ es) l t (r, rs) b h =
     let w = e .place .width in
     let t = both (eqb (e .place .at) n) (tiles (n + w) es) t in
     let here : spell w (number n w l) ≡ take w (drop n l) = spell-number n w l b (omega arith) in
     let val : number n w l ≡ e .value = ap (λ (k : ℕ). number k w l) (sym (eqb-true (e .place .at) n (t .0))) ∙ r in
-    let rest : bytesOf es ≡ take (size es) (drop (n + w) l) = reads-copied (n + w) es l (t .1) rs b (omega arith) in
+    let rest : bytesOf es ≡ take (sizeOf es) (drop (n + w) l) = reads-copied (n + w) es l (t .1) rs b (omega arith) in
     rw (take-add, drop-drop, ← here, val, rest) refl
 
 pub set-sets : (l vs : List ℕ) (i k x : ℕ) → i + length vs ≤ k → sets (set l k x) i vs ≡ set (sets l i vs) k x

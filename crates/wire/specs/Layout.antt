@@ -14,7 +14,7 @@ use Rattle.wire.specs.declared.Body.{Body}
 use Rattle.wire.specs.declared.Body.the-variants as B
 use Rattle.wire.specs.declared.Rest.{Rest}
 use Rattle.wire.specs.declared.Rest.the-variants as Q
-use Rattle.wire.specs.Bytes.{Place, Entry, _for_, _≔_, field, bytesOf}
+use Rattle.wire.specs.Bytes.{Place, Entry, _for_, _≔_, fieldAt, bytesOf}
 
 -- ---- the common header (13.3.1, table 35)
 
@@ -56,11 +56,11 @@ abbrev pub logMessageInterval : Place
 logMessageInterval = 33 for 1
 
 -- a byte that two fields share, four bits each
-abbrev pub high : ℕ → ℕ
-high b = b / 16
+abbrev pub highHalf : ℕ → ℕ
+highHalf b = b / 16
 
-abbrev pub low : ℕ → ℕ
-low b = b % 16
+abbrev pub lowHalf : ℕ → ℕ
+lowHalf b = b % 16
 
 abbrev pub halves : ℕ → ℕ → ℕ
 halves h l = h * 16 + l
@@ -79,14 +79,14 @@ unfoldable pub timestampEntries : ℕ → WireTimestamp → List Entry
 timestampEntries at w = (at for 6 ≔ w .seconds) ∷ (at + 6 for 4 ≔ w .nanos) ∷ []
 
 unfoldable pub timestampAt : ℕ → List ℕ → WireTimestamp
-timestampAt at l = record { seconds = field (at for 6) l; nanos = field (at + 6 for 4) l }
+timestampAt at l = record { seconds = fieldAt (at for 6) l; nanos = fieldAt (at + 6 for 4) l }
 
 -- a PortIdentity (5.3.5): eight bytes of clock, two of port
 unfoldable pub identityEntries : ℕ → Identity → List Entry
 identityEntries at i = (at for 8 ≔ i .clock) ∷ (at + 8 for 2 ≔ i .port) ∷ []
 
 unfoldable pub identityAt : ℕ → List ℕ → Identity
-identityAt at l = record { clock = field (at for 8) l; port = field (at + 8 for 2) l }
+identityAt at l = record { clock = fieldAt (at for 8) l; port = fieldAt (at + 8 for 2) l }
 
 -- ---- the header, written with a control byte and read
 
@@ -109,18 +109,18 @@ headerEntries h control =
 unfoldable pub headerOf : List ℕ → Header
 headerOf l =
     record {
-      «major_sdo» = high (field majorSdoId·messageType l);
-      kind = low (field majorSdoId·messageType l);
-      minor = high (field minorVersionPTP·versionPTP l);
-      version = low (field minorVersionPTP·versionPTP l);
-      length = field messageLength l;
-      domain = field domainNumber l;
-      «minor_sdo» = field minorSdoId l;
-      flags = field flagField l;
-      correction = field correctionField l;
+      «major_sdo» = highHalf (fieldAt majorSdoId·messageType l);
+      kind = lowHalf (fieldAt majorSdoId·messageType l);
+      minor = highHalf (fieldAt minorVersionPTP·versionPTP l);
+      version = lowHalf (fieldAt minorVersionPTP·versionPTP l);
+      length = fieldAt messageLength l;
+      domain = fieldAt domainNumber l;
+      «minor_sdo» = fieldAt minorSdoId l;
+      flags = fieldAt flagField l;
+      correction = fieldAt correctionField l;
       source = identityAt sourcePortIdentity l;
-      id = field sequenceId l;
-      interval = field logMessageInterval l;
+      id = fieldAt sequenceId l;
+      interval = fieldAt logMessageInterval l;
     }
 
 -- ---- the messages (01's table; 13.3.2.3, table 36; 13.3.2.13, table 42)
@@ -170,17 +170,17 @@ restEntries at Q.Nothing = []
 restEntries at Q.Reserved = (at for 10 ≔ 0) ∷ []
 restEntries at (Q.Requester i) = identityEntries at i
 
-abbrev pub restOf : Body → Rest
-restOf (B.Sync t) = Q.Nothing
-restOf (B.DelayReq t) = Q.Nothing
-restOf (B.PDelayReq t) = Q.Reserved
-restOf (B.PDelayResp t i) = Q.Requester i
-restOf (B.FollowUp t) = Q.Nothing
-restOf (B.DelayResp t i) = Q.Requester i
-restOf (B.PDelayRespFollowUp t i) = Q.Requester i
+abbrev pub restIn : Body → Rest
+restIn (B.Sync t) = Q.Nothing
+restIn (B.DelayReq t) = Q.Nothing
+restIn (B.PDelayReq t) = Q.Reserved
+restIn (B.PDelayResp t i) = Q.Requester i
+restIn (B.FollowUp t) = Q.Nothing
+restIn (B.DelayResp t i) = Q.Requester i
+restIn (B.PDelayRespFollowUp t i) = Q.Requester i
 
 unfoldable pub bodyEntries : ℕ → Body → List Entry
-bodyEntries at b = timestampEntries at (timestampOf b) ++ restEntries (at + 10) (restOf b)
+bodyEntries at b = timestampEntries at (timestampOf b) ++ restEntries (at + 10) (restIn b)
 
 unfoldable pub bodyOf : MessageType → List ℕ → Body
 bodyOf M.Sync l = B.Sync (timestampAt body l)

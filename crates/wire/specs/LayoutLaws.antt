@@ -16,20 +16,20 @@ use Rattle.wire.specs.declared.Body.{Body}
 use Rattle.wire.specs.declared.Body.the-variants as B
 use Rattle.wire.specs.declared.Rest.{Rest}
 use Rattle.wire.specs.declared.Rest.the-variants as Q
-use Rattle.wire.specs.Bytes.{puts, bytesOf, size, tiles}
-use Rattle.wire.specs.Layout.{headerEntries, timestampEntries, identityEntries, restEntries, restOf, bodyEntries, row, named, kindOf, typeOf, bodyOf, timestampOf, timestampAt, body, messageEntries, messageBytes}
+use Rattle.wire.specs.Bytes.{puts, bytesOf, sizeOf, tiles}
+use Rattle.wire.specs.Layout.{headerEntries, timestampEntries, identityEntries, restEntries, restIn, bodyEntries, row, named, kindOf, typeOf, bodyOf, timestampOf, timestampAt, body, messageEntries, messageBytes}
 use Rattle.wire.specs.BytesLaws.{apart, written, puts-append, length-bytesOf, bytesOf-append}
 
 -- ---- the header
 
 -- its first seven entries, and then the others: the two halves that code writes
 pub header-written : (h : Header) (c : ℕ) (l : List ℕ) → 34 ≤ length l → puts (drop 7 (headerEntries h c)) (puts (take 7 (headerEntries h c)) l) ≡ bytesOf (headerEntries h c) ++ drop 34 l
-unfolding tiles size headerEntries identityEntries
+unfolding tiles sizeOf headerEntries identityEntries
 header-written h c l n =
     sym (puts-append (take 7 (headerEntries h c)) (drop 7 (headerEntries h c)) l) ∙ written (headerEntries h c) l refl n
 
 pub length-header : (h : Header) (c : ℕ) → length (bytesOf (headerEntries h c)) ≡ 34
-unfolding size headerEntries identityEntries
+unfolding sizeOf headerEntries identityEntries
 length-header h c = length-bytesOf (headerEntries h c)
 
 -- ---- the bodies, which stand the same wherever they start
@@ -44,7 +44,7 @@ pub body-tiles : (at : ℕ) (b : Body) → tiles at (bodyEntries at b) ≡ true
 unfolding tiles bodyEntries timestampEntries
 body-tiles at b =
     let e : at + 6 + 4 ≡ at + 10 = omega arith in
-    simp (eq-eqb at at refl, eq-eqb (at + 6) (at + 6) refl, e, rest-tiles (at + 10) (restOf b))
+    simp (eq-eqb at at refl, eq-eqb (at + 6) (at + 6) refl, e, rest-tiles (at + 10) (restIn b))
 
 rest-bytes : (at : ℕ) (q : Rest) → bytesOf (restEntries at q) ≡ bytesOf (restEntries 10 q)
 unfolding identityEntries bytesOf
@@ -54,10 +54,10 @@ rest-bytes at (Q.Requester i) = refl
 
 pub body-bytes : (at : ℕ) (b : Body) → bytesOf (bodyEntries at b) ≡ bytesOf (bodyEntries 0 b)
 unfolding bodyEntries timestampEntries bytesOf
-body-bytes at b = simp (rest-bytes (at + 10) (restOf b))
+body-bytes at b = simp (rest-bytes (at + 10) (restIn b))
 
-pub body-size : (at : ℕ) (b : Body) → size (bodyEntries at b) + 34 ≡ row (typeOf b) .length
-unfolding bodyEntries timestampEntries identityEntries size
+pub body-size : (at : ℕ) (b : Body) → sizeOf (bodyEntries at b) + 34 ≡ row (typeOf b) .length
+unfolding bodyEntries timestampEntries identityEntries sizeOf
 body-size at (B.Sync t) = refl
 body-size at (B.DelayReq t) = refl
 body-size at (B.PDelayReq t) = refl
@@ -67,11 +67,11 @@ body-size at (B.DelayResp t i) = refl
 body-size at (B.PDelayRespFollowUp t i) = refl
 
 -- the timestamp has ten bytes, and the rest what is left
-pub rest-room : (b : Body) (q : Rest) → restOf b ≡ q → size (bodyEntries 0 b) ≡ 10 + size (restEntries 10 q)
-unfolding bodyEntries timestampEntries size
-rest-room b q e = omega (arith, ap (λ (x : Rest). size (restEntries 10 x)) e)
+pub rest-room : (b : Body) (q : Rest) → restIn b ≡ q → sizeOf (bodyEntries 0 b) ≡ 10 + sizeOf (restEntries 10 q)
+unfolding bodyEntries timestampEntries sizeOf
+rest-room b q e = omega (arith, ap (λ (x : Rest). sizeOf (restEntries 10 x)) e)
 
-pub body-written : (b : Body) (l : List ℕ) → size (bodyEntries 0 b) ≤ length l → puts (bodyEntries 0 b) l ≡ bytesOf (bodyEntries 0 b) ++ drop (size (bodyEntries 0 b)) l
+pub body-written : (b : Body) (l : List ℕ) → sizeOf (bodyEntries 0 b) ≤ length l → puts (bodyEntries 0 b) l ≡ bytesOf (bodyEntries 0 b) ++ drop (sizeOf (bodyEntries 0 b)) l
 body-written b l n = written (bodyEntries 0 b) l (body-tiles 0 b) n
 
 -- ---- the whole message
@@ -88,7 +88,7 @@ head-then-body h b =
 
 pub length-message : (h : Header) (b : Body) → length (messageBytes h b) ≡ row (typeOf b) .length
 length-message h b =
-    let n : length (bytesOf (bodyEntries 0 b)) ≡ size (bodyEntries 0 b) = length-bytesOf (bodyEntries 0 b) in
+    let n : length (bytesOf (bodyEntries 0 b)) ≡ sizeOf (bodyEntries 0 b) = length-bytesOf (bodyEntries 0 b) in
     ap length (head-then-body h b) ∙ length-append (bytesOf (headerEntries h (row (typeOf b) .control))) (bytesOf (bodyEntries 0 b))
     ∙ omega (arith, length-header h (row (typeOf b) .control), n, body-size 0 b)
 

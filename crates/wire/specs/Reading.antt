@@ -14,12 +14,12 @@ use Rattle.wire.specs.declared.Header.{Header}
 use Rattle.wire.specs.declared.Body.{Body}
 use Rattle.wire.specs.declared.Reading.{Reading}
 use Rattle.wire.specs.declared.Reading.the-variants as G
-use Rattle.wire.specs.Bytes.{field}
-use Rattle.wire.specs.Layout.{row, kindOf, headerOf, bodyOf, timestampAt, body, low, minorVersionPTP·versionPTP, majorSdoId·messageType, messageLength}
+use Rattle.wire.specs.Bytes.{fieldAt}
+use Rattle.wire.specs.Layout.{row, kindOf, headerOf, bodyOf, timestampAt, body, lowHalf, minorVersionPTP·versionPTP, majorSdoId·messageType, messageLength}
 
 -- row 4: shorter than 2 bytes, or version not 2
 unfoldable pub row4 : List ℕ → Bool
-row4 l = ltb (length l) 2 || not (eqb (low (field minorVersionPTP·versionPTP l)) 2)
+row4 l = ltb (length l) 2 || not (eqb (lowHalf (fieldAt minorVersionPTP·versionPTP l)) 2)
 
 -- the last two conditions of row 5: a type that is none, and a stated length short of the table's
 abbrev pub reserved : Kind → Bool
@@ -35,8 +35,8 @@ shortFor K.Reserved stated = false
 -- row 5, on what row 4 lets through
 unfoldable pub row5 : List ℕ → Bool
 row5 l =
-    let stated : ℕ = field messageLength l in
-    let kind : Kind = kindOf (low (field majorSdoId·messageType l)) in
+    let stated : ℕ = fieldAt messageLength l in
+    let kind : Kind = kindOf (lowHalf (fieldAt majorSdoId·messageType l)) in
     ltb (length l) 34 || (ltb stated 34 || ltb (length l) stated) || reserved kind || shortFor kind stated
 
 -- every timestamp of a message is read as a time here, used or not; what is no time makes the message malformed. (`ReadingLaws`, `timestamp-read`: today each is a time.)
@@ -53,4 +53,4 @@ decoded K.Host l = G.Host (headerOf l)
 decoded K.Reserved l = G.Malformed
 
 unfoldable pub readOf : List ℕ → Reading
-readOf l = cond (row4 l) G.Version (cond (row5 l) G.Malformed (decoded (kindOf (low (field majorSdoId·messageType l))) l))
+readOf l = cond (row4 l) G.Version (cond (row5 l) G.Malformed (decoded (kindOf (lowHalf (fieldAt majorSdoId·messageType l))) l))

@@ -18,8 +18,8 @@ use Rattle.wire.specs.declared.Header.{Header}
 use Rattle.wire.specs.declared.Body.{Body}
 use Rattle.wire.specs.declared.Reading.{Reading}
 use Rattle.wire.specs.declared.Reading.the-variants as G
-use Rattle.wire.specs.Bytes.{field}
-use Rattle.wire.specs.Layout.{row, kindOf, headerOf, bodyOf, typeOf, timestampOf, timestampAt, body, low, minorVersionPTP·versionPTP, majorSdoId·messageType, messageLength}
+use Rattle.wire.specs.Bytes.{fieldAt}
+use Rattle.wire.specs.Layout.{row, kindOf, headerOf, bodyOf, typeOf, timestampOf, timestampAt, body, lowHalf, minorVersionPTP·versionPTP, majorSdoId·messageType, messageLength}
 use Rattle.wire.specs.Reading.{row4, row5, reserved, shortFor, timed, messageOf, decoded, readOf}
 use Rattle.wire.specs.Numbers.{numberOf}
 use Rattle.wire.specs.BytesLaws.{neither, apart, Bytes, number-lt}
@@ -27,7 +27,7 @@ use Rattle.wire.specs.LayoutLaws.{kind-number, type-body, timestamp-body
 
 -- what the type number of l stands for
 abbrev pub kindIn : List ℕ → Kind
-kindIn l = kindOf (low (field majorSdoId·messageType l))
+kindIn l = kindOf (lowHalf (fieldAt majorSdoId·messageType l))
 
 -- each timestamp of bytes is a time, so row 5 is all that makes bytes malformed (`malformed-is`)
 pub timestamp-read : (at : ℕ) (l : List ℕ) → Bytes l → timeOfWire (timestampAt at l) ≡ R.Value (timeWords (wire (timestampAt at l)))
@@ -38,31 +38,31 @@ timestamp-read at l b = read-in (timestampAt at l) (number-lt at 6 l b)
 
 pub record PastRow4 (l : List ℕ) : Type 0 where
   pub two-bytes : 2 ≤ length l
-  pub version : low (field minorVersionPTP·versionPTP l) ≡ 2
+  pub version : lowHalf (fieldAt minorVersionPTP·versionPTP l) ≡ 2
 
 pub past-row4 : (l : List ℕ) → row4 l ≡ false → PastRow4 l
 unfolding row4
 past-row4 l e =
-    let v : Bool = eqb (low (field minorVersionPTP·versionPTP l)) 2 in
+    let v : Bool = eqb (lowHalf (fieldAt minorVersionPTP·versionPTP l)) 2 in
     let (a, b) = neither (ltb (length l) 2) (not v) e in
-    record { two-bytes = ltb-false (length l) 2 a; version = eqb-true (low (field minorVersionPTP·versionPTP l)) 2 (not-false v b) }
+    record { two-bytes = ltb-false (length l) 2 a; version = eqb-true (lowHalf (fieldAt minorVersionPTP·versionPTP l)) 2 (not-false v b) }
 
 pub row4-passed : (l : List ℕ) → PastRow4 l → row4 l ≡ false
 unfolding row4
-row4-passed l p = simp (le-ltb (length l) 2 (p .two-bytes), eq-eqb (low (field minorVersionPTP·versionPTP l)) 2 (p .version))
+row4-passed l p = simp (le-ltb (length l) 2 (p .two-bytes), eq-eqb (lowHalf (fieldAt minorVersionPTP·versionPTP l)) 2 (p .version))
 
 pub record PastRow5 (l : List ℕ) : Type 0 where
   pub header-there : 34 ≤ length l
-  pub header-stated : 34 ≤ field messageLength l
-  pub stated-there : field messageLength l ≤ length l
+  pub header-stated : 34 ≤ fieldAt messageLength l
+  pub stated-there : fieldAt messageLength l ≤ length l
   pub a-type : reserved (kindIn l) ≡ false
-  pub body-stated : shortFor (kindIn l) (field messageLength l) ≡ false
+  pub body-stated : shortFor (kindIn l) (fieldAt messageLength l) ≡ false
 
 pub past-row5 : (l : List ℕ) → row5 l ≡ false → PastRow5 l
 unfolding row5
 past-row5 l e =
     let n : ℕ = length l in
-    let s : ℕ = field messageLength l in
+    let s : ℕ = fieldAt messageLength l in
     let lengths : Bool = ltb n 34 || (ltb s 34 || ltb n s) in
     let (p, f) = neither (lengths || reserved (kindIn l)) (shortFor (kindIn l) s) e in
     let (q, d) = neither lengths (reserved (kindIn l)) p in
@@ -73,7 +73,7 @@ past-row5 l e =
 pub row5-passed : (l : List ℕ) → PastRow5 l → row5 l ≡ false
 unfolding row5
 row5-passed l p =
-    let s : ℕ = field messageLength l in
+    let s : ℕ = fieldAt messageLength l in
     simp (le-ltb (length l) 34 (p .header-there), le-ltb s 34 (p .header-stated), le-ltb (length l) s (p .stated-there), p .a-type, p .body-stated)
 
 -- ---- which of the three an answer came from
@@ -220,8 +220,8 @@ message-is l h b t e = go (came (row4 l) (row5 l) (decoded (kindIn l) l) (G.Mess
     go (by-type p q x) =
         let (k, g, c, v) = decoded-message (kindIn l) l h b t x in
         let w : PastRow5 l = past-row5 l q in
-        let stated : h .length ≡ field messageLength l = ap (λ (y : Header). y .length) g in
-        let least : shortFor (K.Table (typeOf b)) (field messageLength l) ≡ false = rw k at (w .body-stated) in
+        let stated : h .length ≡ fieldAt messageLength l = ap (λ (y : Header). y .length) g in
+        let least : shortFor (K.Table (typeOf b)) (fieldAt messageLength l) ≡ false = rw k at (w .body-stated) in
         record {
           not-row4 = p;
           not-row5 = q;
@@ -230,10 +230,10 @@ message-is l h b t e = go (came (row4 l) (row5 l) (decoded (kindIn l) l) (G.Mess
           body-is = c;
           time = v;
           header-there = w .header-there;
-          body-stated = rw stated (ltb-false (field messageLength l) (row (typeOf b) .length) least);
+          body-stated = rw stated (ltb-false (fieldAt messageLength l) (row (typeOf b) .length) least);
           stated-there = rw stated (w .stated-there);
           version = ap (λ (y : Header). y .version) g ∙ past-row4 l p .version;
-          number = ap (λ (y : Header). y .kind) g ∙ kind-number (low (field majorSdoId·messageType l)) (typeOf b) k;
+          number = ap (λ (y : Header). y .kind) g ∙ kind-number (lowHalf (fieldAt majorSdoId·messageType l)) (typeOf b) k;
         }
 
 -- ---- the number that is answered, for any bytes

@@ -14,8 +14,8 @@ use Rattle.wire.specs.declared.Kind.{Kind}
 use Rattle.wire.specs.declared.Kind.the-variants as K
 use Rattle.wire.specs.declared.Body.the-variants as B
 use Rattle.wire.specs.declared.Reading.the-variants as G
-use Rattle.wire.specs.Bytes.{Place, field, number}
-use Rattle.wire.specs.Layout.{row, headerOf, bodyOf, timestampAt, identityAt, body, low, kindOf, readTo, unread, reservedIn, messageLength}
+use Rattle.wire.specs.Bytes.{Place, fieldAt, number}
+use Rattle.wire.specs.Layout.{row, headerOf, bodyOf, timestampAt, identityAt, body, lowHalf, kindOf, readTo, unread, reservedIn, messageLength}
 use Rattle.wire.specs.Reading.{row4, row5, timed, messageOf, decoded, readOf, shortFor}
 use Rattle.wire.specs.BytesLaws.{neither, number-same, number-inside}
 use Rattle.wire.specs.ReadingLaws.{kindIn, past-row5}
@@ -157,7 +157,7 @@ decoded-same K.Reserved l m e = refl
 abbrev Alike : ℕ → ℕ → ℕ → Type 0
 Alike stated a b = (ltb a 2 ≡ ltb b 2) × (ltb a 34 ≡ ltb b 34) × (ltb a stated ≡ ltb b stated)
 
-module _ (l m : List ℕ) (n : Alike (field messageLength l) (length l) (length m)) (first : (i : ℕ) → i < 4 → getD l i 0 ≡ getD m i 0) where
+module _ (l m : List ℕ) (n : Alike (fieldAt messageLength l) (length l) (length m)) (first : (i : ℕ) → i < 4 → getD l i 0 ≡ getD m i 0) where
   start : (at w : ℕ) → at + w ≤ 4 → number at w l ≡ number at w m
   start at w h = number-same at w l m (λ i a b. first i (omega arith))
 
@@ -178,7 +178,7 @@ module _ (l m : List ℕ) (n : Alike (field messageLength l) (length l) (length 
     where
       go : (b : Bool) → row5 l ≡ b → cond b G.Malformed (decoded (kindIn l) l) ≡ cond b G.Malformed (decoded (kindIn m) m)
       go true h = refl
-      go false h = decoded-same (kindIn l) l m (e h) ∙ ap (λ (x : ℕ). decoded (kindOf (low x)) m) (start 0 1 (lit≤ tt))
+      go false h = decoded-same (kindIn l) l m (e h) ∙ ap (λ (x : ℕ). decoded (kindOf (lowHalf x)) m) (start 0 1 (lit≤ tt))
 
 -- type, version and stated length are always read
 first-read : (k : Kind) (i : ℕ) → i < 4 → unreadAt k i ≡ false
@@ -190,11 +190,11 @@ first-read k i h =
 pub unread-same : (l m : List ℕ) → length l ≡ length m → ((i : ℕ) → unreadAt (kindIn l) i ≡ false → getD l i 0 ≡ getD m i 0) → readOf l ≡ readOf m
 unread-same l m n e =
     let alike : (x : ℕ) → ltb (length l) x ≡ ltb (length m) x = λ x. ap (λ (k : ℕ). ltb k x) n in
-    same l m (alike 2, alike 34, alike (field messageLength l)) (λ i h. e i (first-read (kindIn l) i h)) (λ r. e)
+    same l m (alike 2, alike 34, alike (fieldAt messageLength l)) (λ i h. e i (first-read (kindIn l) i h)) (λ r. e)
 
 -- how far a message reaches: to its stated length, and never less than a header
-abbrev pub reach : List ℕ → ℕ
-reach l = max 34 (field messageLength l)
+abbrev pub statedEnd : List ℕ → ℕ
+statedEnd l = max 34 (fieldAt messageLength l)
 
 read-there : (k : Kind) (stated : ℕ) → 34 ≤ stated → shortFor k stated ≡ false → readTo k ≤ stated
 read-there (K.Table t) stated h e = ltb-false stated (row t .length) e
@@ -202,20 +202,20 @@ read-there K.Host stated h e = h
 read-there K.Reserved stated h e = h
 
 -- where both are all there, what lies behind does not matter, nor how much of it there is
-pub behind-same : (l m : List ℕ) → reach l ≤ length l → reach m ≤ length m → ((i : ℕ) → i < reach l → unreadAt (kindIn l) i ≡ false → getD l i 0 ≡ getD m i 0) → readOf l ≡ readOf m
+pub behind-same : (l m : List ℕ) → statedEnd l ≤ length l → statedEnd m ≤ length m → ((i : ℕ) → i < statedEnd l → unreadAt (kindIn l) i ≡ false → getD l i 0 ≡ getD m i 0) → readOf l ≡ readOf m
 behind-same l m p q e =
-    let s : ℕ = field messageLength l in
+    let s : ℕ = fieldAt messageLength l in
     let first : (i : ℕ) → i < 4 → getD l i 0 ≡ getD m i 0 = λ i h. e i (omega arith) (first-read (kindIn l) i h) in
-    let stated : s ≡ field messageLength m = number-same 2 2 l m (λ i a b. first i (omega arith)) in
-    let alike : (x : ℕ) → x ≤ reach l → ltb (length l) x ≡ ltb (length m) x = λ x h. le-ltb (length l) x (omega arith) ∙ sym (le-ltb (length m) x (omega arith)) in
+    let stated : s ≡ fieldAt messageLength m = number-same 2 2 l m (λ i a b. first i (omega arith)) in
+    let alike : (x : ℕ) → x ≤ statedEnd l → ltb (length l) x ≡ ltb (length m) x = λ x h. le-ltb (length l) x (omega arith) ∙ sym (le-ltb (length m) x (omega arith)) in
     same l m (alike 2 (omega arith), alike 34 (omega arith), alike s (omega arith)) first
     (λ r i u.
     let w = past-row5 l r in
     let there : readTo (kindIn l) ≤ s = read-there (kindIn l) s (w .header-stated) (w .body-stated) in
     e i (omega (arith, there, read-at-is (kindIn l) i u .0)) u)
 
-pub behind-appended : (l q : List ℕ) → 34 ≤ length l → field messageLength l ≤ length l → readOf (l ++ q) ≡ readOf l
+pub behind-appended : (l q : List ℕ) → 34 ≤ length l → fieldAt messageLength l ≤ length l → readOf (l ++ q) ≡ readOf l
 behind-appended l q h s =
     let n = length-append l q in
-    let stated : field messageLength (l ++ q) ≡ field messageLength l = number-inside l q 2 2 (omega arith) in
+    let stated : fieldAt messageLength (l ++ q) ≡ fieldAt messageLength l = number-inside l q 2 2 (omega arith) in
     sym (behind-same l (l ++ q) (omega arith) (omega arith) (λ i g u. sym (List·getD-append l q 0 i (omega arith))))

@@ -1,6 +1,6 @@
 // Document 01's table: each message's type number, control byte and length, and what its body has.
 ghost use mathlib.Core.Path.{_≡_};
-ghost use Rattle.wire.specs.Layout.{Row, row, twoStep, kindOf, typeOf, timestampOf, restOf};
+ghost use Rattle.wire.specs.Layout.{Row, row, twoStep, kindOf, typeOf, timestampOf, restIn};
 use crate::Body;
 use crate::Header;
 use crate::Kind;
@@ -137,7 +137,7 @@ impl Body {
 
     // What lies behind its timestamp.
     pub fn rest(self) -> Rest
-        ensures { λ r. ⌜ r ≡ restOf self ⌝ }
+        ensures { λ r. ⌜ r ≡ restIn self ⌝ }
     {
         match self {
             Body::Sync { origin: _ } => Rest::Nothing,

@@ -8,7 +8,7 @@ use lib.Seq.{take-all, take-at, drop-at, drop-drop}
 use borrow.Rule.Slice.PartMut.{putMid, midOf}
 use Rattle.wire.specs.declared.Header.{Header}
 use Rattle.wire.specs.declared.Body.{Body}
-use Rattle.wire.specs.Bytes.{bytesOf, puts, size}
+use Rattle.wire.specs.Bytes.{bytesOf, puts, sizeOf}
 use Rattle.wire.specs.Layout.{row, typeOf, headerEntries, bodyEntries, messageBytes}
 use Rattle.wire.specs.LayoutLaws.{length-header, body-size, body-written, head-then-body}
 
@@ -37,11 +37,11 @@ module _ (h : Header) (b : Body) (xs ys l : List ℕ) where
   laid room x y =
       let e : length hd ≡ 34 = length-header h (row (typeOf b) .control) in
       let bd : List ℕ = bytesOf (bodyEntries 0 b) in
-      let k : size (bodyEntries 0 b) ≤ length (drop 34 l) = simp length-drop (omega (arith, room, body-size 0 b)) in
-      let n : 34 + size (bodyEntries 0 b) ≡ row (typeOf b) .length = omega (arith, body-size 0 b) in
+      let k : sizeOf (bodyEntries 0 b) ≤ length (drop 34 l) = simp length-drop (omega (arith, room, body-size 0 b)) in
+      let n : 34 + sizeOf (bodyEntries 0 b) ≡ row (typeOf b) .length = omega (arith, body-size 0 b) in
       head-and-rest 34 hd xs l e x ys
       ∙ ap (λ (z : List ℕ). hd ++ z) (y ∙ ap (puts (bodyEntries 0 b)) (lent 34 hd xs l e x) ∙ body-written b (drop 34 l) k)
-      ∙ ap (λ (z : List ℕ). hd ++ (bd ++ z)) (drop-drop (size (bodyEntries 0 b)) 34 l)
-      ∙ sym (append-assoc hd bd (drop (34 + size (bodyEntries 0 b)) l))
-      ∙ ap (λ (z : List ℕ). z ++ drop (34 + size (bodyEntries 0 b)) l) (sym (head-then-body h b))
+      ∙ ap (λ (z : List ℕ). hd ++ (bd ++ z)) (drop-drop (sizeOf (bodyEntries 0 b)) 34 l)
+      ∙ sym (append-assoc hd bd (drop (34 + sizeOf (bodyEntries 0 b)) l))
+      ∙ ap (λ (z : List ℕ). z ++ drop (34 + sizeOf (bodyEntries 0 b)) l) (sym (head-then-body h b))
       ∙ ap (λ (z : ℕ). messageBytes h b ++ drop z l) n

@@ -25,7 +25,7 @@ use Rattle.wire.specs.declared.Body.the-variants as B
 use Rattle.wire.specs.declared.Reading.the-variants as G
 use Rattle.writing.specs.declared.Written.{Written}
 use Rattle.writing.specs.declared.Written.the-variants as W
-use Rattle.wire.specs.Bytes.{Entry, number, spell, bytesOf, size, tiles, field}
+use Rattle.wire.specs.Bytes.{Entry, number, spell, bytesOf, sizeOf, tiles, fieldAt}
 use Rattle.wire.specs.Layout.{headerEntries, headerOf, timestampEntries, timestampAt, identityEntries, identityAt, bodyEntries, bodyOf, body, row, kindOf, typeOf, timestampOf, messageLength, unread, messageEntries, messageBytes}
 use Rattle.wire.specs.Reading.{row4, row5, readOf, shortFor, reserved}
 use Rattle.writing.specs.Writing.{fitsOf, writeOf, leftBy, leftOf}
@@ -95,7 +95,7 @@ module _ (h : Header) (b : Body) (f : Fitting h b) (q : List ℕ) where
   unfolding headerOf
   kind-back = ap (λ (x : Header). kindOf (x .kind)) header-back ∙ ap kindOf (f .number-is) ∙ number-kind (typeOf b)
 
-  stated : field messageLength whole ≡ row (typeOf b) .length
+  stated : fieldAt messageLength whole ≡ row (typeOf b) .length
   unfolding headerOf
   stated = ap (λ (x : Header). x .length) header-back ∙ f .length-is
 
@@ -117,7 +117,7 @@ module _ (h : Header) (b : Body) (f : Fitting h b) (q : List ℕ) where
         header-stated = omega (arith, stated, least);
         stated-there = omega (arith, stated, there);
         a-type = ap reserved kind-back;
-        body-stated = ap (λ (k : Kind). shortFor k (field messageLength whole)) kind-back ∙ le-ltb (field messageLength whole) (row (typeOf b) .length) (omega (arith, stated));
+        body-stated = ap (λ (k : Kind). shortFor k (fieldAt messageLength whole)) kind-back ∙ le-ltb (fieldAt messageLength whole) (row (typeOf b) .length) (omega (arith, stated));
       } in
       message-when whole (typeOf b) t a c kind-back (ap timeOfWire (stamp-reads b whole (stands .1)) ∙ has-time)
       ∙ (λ j. G.Message (header-back j) (body-reads b whole (stands .1) j) t)
@@ -160,7 +160,7 @@ written-reads h b l n e =
 
 -- where an entry's value comes from: it is what stands in l, or the writer's own and at a place that is not read
 data Origin (k : Kind) (l : List ℕ) (e : Entry) : Type 0 where
-  copied : field (e .place) l ≡ e .value → Origin k l e
+  copied : fieldAt (e .place) l ≡ e .value → Origin k l e
   own : e .value < 256 ^ e .place .width → ((i : ℕ) → e .place .at ≤ i → i < e .place .at + e .place .width → unreadAt k i ≡ false → ⊥) → Origin k l e
 
 abbrev Origins : Kind → List ℕ → List Entry → Type 0
@@ -204,8 +204,8 @@ entry-same k l e b n (copied v) i h u =
 entry-same k l e b n (own v o) i h u =
     absurd (o (e .place .at + i) (omega arith) (omega (arith, length-spell (e .place .width) (e .value))) u)
 
-table-same : (k : Kind) (l : List ℕ) (n : ℕ) (es : List Entry) → Bytes l → n + size es ≤ length l → tiles n es ≡ true → Origins k l es → Same k n (bytesOf es) l
-unfolding size tiles bytesOf
+table-same : (k : Kind) (l : List ℕ) (n : ℕ) (es : List Entry) → Bytes l → n + sizeOf es ≤ length l → tiles n es ≡ true → Origins k l es → Same k n (bytesOf es) l
+unfolding sizeOf tiles bytesOf
 table-same k l n [] b s t o = λ i h u. omega arith
 table-same k l n (e ∷ es) b s t (o, os) =
     let w = e .place .width in
@@ -272,7 +272,7 @@ read-writes l h b t bytes e n =
       minor = omega (arith, minor, number-lt 1 1 l bytes);
       each = origins-fit k l (messageEntries h b) bytes o;
     } in
-    let there : 0 + size (messageEntries h b) ≤ length l = omega (arith, length-bytesOf (messageEntries h b), long, n, m .stated-there) in
+    let there : 0 + sizeOf (messageEntries h b) ≤ length l = omega (arith, length-bytesOf (messageEntries h b), long, n, m .stated-there) in
     record {
       fits = fit;
       writes = λ room r. write-when h b room fit r;

@@ -2,7 +2,7 @@
 ghost use mathlib.Core.Path.{_≡_};
 ghost use Prim.Native.Nat.{_≤_};
 ghost use lib.ListN.{length};
-ghost use Rattle.wire.specs.Bytes.{puts, size};
+ghost use Rattle.wire.specs.Bytes.{puts, sizeOf};
 ghost use Rattle.wire.specs.Layout.{bodyEntries};
 use crate::fields;
 use wire::Body;
@@ -10,7 +10,7 @@ use wire::Rest;
 
 // The body into the part of the packet from byte 34 on.
 pub(crate) fn write_body(part: &mut [u8], b: Body)
-    requires { ⌜ size (bodyEntries 0 b) ≤ length (now part) ⌝ }
+    requires { ⌜ sizeOf (bodyEntries 0 b) ≤ length (now part) ⌝ }
     ensures { λ _. ⌜ now (part .exit) ≡ puts (bodyEntries 0 b) (now (part .entry)) ⌝ }
 {
     fields::put_timestamp(part, 0, b.timestamp());

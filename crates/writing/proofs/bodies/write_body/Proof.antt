@@ -1,7 +1,7 @@
 use Rattle.wire.specs.declared.Rest.the-variants as Q
 use native.Mathlib.Omega.{arith}
 use mathlib.Core.Path.{sym, _∙_, refl}
-use Rattle.wire.specs.Bytes.{puts, size}
+use Rattle.wire.specs.Bytes.{puts, sizeOf}
 use Rattle.wire.specs.Layout.{bodyEntries, timestampEntries, identityEntries}
 use Rattle.wire.specs.LayoutLaws.{rest-room}
 use borrow.Author.Needs.{needs}
@@ -24,7 +24,7 @@ enum-told-2 : tie.Need-enum-told-2
 enum-told-2 c = search needs
 
 put-requires : tie.Need-put-requires
-unfolding size
+unfolding sizeOf
 put-requires c κs =
     let q = sym (c .before .before .before .rest .ensures) ∙ c .before .enum-told2 .given .1 in
     omega (arith, rest-room (c .before .before .before .before .before .before .before .before .before .before .args .b) Q.Reserved q)
@@ -33,7 +33,7 @@ enum-known-rest : tie.Need-enum-known-rest
 enum-known-rest c = search needs
 
 put-identity-requires : tie.Need-put-identity-requires
-unfolding size identityEntries
+unfolding sizeOf identityEntries
 put-identity-requires c κs =
     let q = sym (c .before .before .before .before .rest .ensures) ∙ c .before .before .rest2 .given .1 in
     omega (arith, rest-room (c .before .before .before .before .before .before .before .before .before .before .before .args .b) (Q.Requester (c .before .before .rest2 .given .0 .0)) q)
