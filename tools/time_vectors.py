@@ -9,7 +9,9 @@ A question is a letter and four words; an answer is the letter, 01's number and 
 import random
 import sys
 from fractions import Fraction
-from pathlib import Path
+
+sys.dont_write_bytecode = True
+import stored
 
 W = 2**64
 TIMES = range(0, 2**127)
@@ -160,20 +162,8 @@ def questions():
         yield "z", draw.randint(-9, 16) % 256, draw.getrandbits(52), 0, 0
 
 
-def main():
-    asked = list(questions())
-    folder = Path(__file__).resolve().parent.parent / "crates" / "time_vectors"
-    made = {
-        "stdin": "".join(f"{q[0]} " + " ".join(f"{w:016x}" for w in q[1:]) + "\n" for q in asked),
-        "stdout": "".join(f"{q[0]} {answer(*q)}\n" for q in asked),
-    }
-    for name, text in made.items():
-        if sys.argv[1:] == ["--check"]:
-            if (folder / name).read_text() != text:
-                sys.exit(f"{name} is not what this script writes")
-        else:
-            (folder / name).write_text(text)
-    print(f"{len(asked)} questions")
+def line(q):
+    return f"{q[0]} " + " ".join(f"{w:016x}" for w in q[1:])
 
 
-main()
+stored.keep("time_vectors", [(line(q), f"{q[0]} {answer(*q)}") for q in questions()])

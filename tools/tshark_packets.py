@@ -72,7 +72,7 @@ def program():
 
 def answers(questions):
     """The program's answers, each as its words."""
-    ran = subprocess.run(program(), input="".join(questions), capture_output=True, text=True)
+    ran = subprocess.run(program(), input="".join(q + "\n" for q in questions), capture_output=True, text=True)
     lines = ran.stdout.splitlines()
     if ran.returncode != 0 or len(lines) != len(questions):
         fail(f"the program answered {len(lines)} of {len(questions)} questions")

@@ -9,7 +9,9 @@ letter and numbers of fixed widths, an answer the letter, 01's number and the va
 
 import random
 import sys
-from pathlib import Path
+
+sys.dont_write_bytecode = True
+import stored
 
 LINE = 262
 MOST = 128
@@ -31,7 +33,7 @@ def line(letter, *numbers):
     """A question: its numbers, each a value and how many digits it has, and dots to the line's end."""
     text = letter + "".join(f" {value:0{digits}x}" for value, digits in numbers)
     assert len(text) < LINE, text
-    return text + "." * (LINE - 1 - len(text)) + "\n"
+    return text + "." * (LINE - 1 - len(text))
 
 
 def record(values, widths):
@@ -334,18 +336,5 @@ def questions():
     yield from drawn_questions()
 
 
-def main():
-    asked = list(questions())
-    folder = Path(__file__).resolve().parent.parent / "crates" / "wire_vectors"
-    made = {"stdin": "".join(q for q, _ in asked), "stdout": "".join(a + "\n" for _, a in asked)}
-    for name, text in made.items():
-        if sys.argv[1:] == ["--check"]:
-            if (folder / name).read_text() != text:
-                sys.exit(f"{name} is not what this script writes")
-        else:
-            (folder / name).write_text(text)
-    print(f"{len(asked)} questions")
-
-
 if __name__ == "__main__":
-    main()
+    stored.keep("wire_vectors", list(questions()))

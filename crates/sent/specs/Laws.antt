@@ -10,7 +10,6 @@ use borrow.Author.Tests.{lt-ltb, le-ltb, ltb-true}
 use Rattle.time.specs.Units.{within, signed}
 use Rattle.time.specs.Laws.{was-value, was-refused, signed-low, signed-high}
 use Rattle.time.specs.Lemmas.Integers.{sub-ge, sub-lt, pos-minus, pos-sub, difference-is}
-use Rattle.sent.specs.declared.CorrectionAnswer.{CorrectionAnswer}
 use Rattle.sent.specs.declared.CorrectionAnswer.the-variants as C
 use Rattle.sent.specs.Messages.{word, correctionOf}
 

@@ -1,5 +1,5 @@
 -- Document 01, 'Sent messages': header and body values of the seven messages, in the order of its table.
-use Prim.Native.Nat.{ℕ, suc, _-_, _*_, _/_, _%_, _^_}
+use Prim.Native.Nat.{ℕ, suc, _-_, _/_, _%_, _^_}
 use mathlib.Core.Bool.{cond}
 use lib.IntN.{ℤ, pos, negsuc, negℤ, _-ℤ_}
 use Rattle.time.specs.declared.Time.{Time}
@@ -11,7 +11,6 @@ use Rattle.wire.specs.declared.Identity.{Identity}
 use Rattle.wire.specs.declared.Header.{Header}
 use Rattle.wire.specs.declared.MessageType.{MessageType}
 use Rattle.wire.specs.declared.MessageType.the-variants as M
-use Rattle.wire.specs.declared.Body.{Body}
 use Rattle.wire.specs.declared.Body.the-variants as B
 use Rattle.wire.specs.Layout.{row, twoStepFlag}
 use Rattle.sent.specs.declared.Sender.{Sender}
@@ -25,7 +24,7 @@ use Rattle.sent.specs.declared.Carried.the-variants as S
 
 -- ---- the parts
 
--- own sdo id, domain, minor version and identity. The sdo id's high four bits stand in byte 0, its low eight in byte 5 (IEEE 1588-2019, 16.5)
+-- what a header has of its sender. The sdo id's high four bits stand in byte 0, its low eight in byte 5
 unfoldable pub headerFor : Sender → MessageType → ℕ → ℕ → ℕ → ℕ → Header
 headerFor s t flags correction id interval =
     record {
@@ -51,7 +50,7 @@ noFlag = 0
 abbrev pub noInterval : ℕ
 noInterval = 0x7f
 
--- origin times in Sync, DelayReq and PDelayReq are zero
+-- the origin time in Sync and in both requests
 unfoldable pub zeroTimestamp : WireTimestamp
 zeroTimestamp = record { seconds = 0; nanos = 0 }
 
@@ -63,7 +62,7 @@ word (negsuc n) = 2 ^ 64 - suc n
 unfoldable pub correctionOf : ℤ → CorrectionAnswer
 correctionOf z = cond (within (negℤ (pos (2 ^ 63))) (pos (2 ^ 63 - 1)) z) (C.Value (word z)) C.Out
 
--- ---- what is carried of a stamp: its timestamp, and f, the fraction of a nanosecond cut to 16 bits, in the correction. `Out` where the seconds leave 48 bits, or the correction 64
+-- ---- what is carried of a stamp: its timestamp, and in the correction f, the first 16 bits of what is left of a nanosecond. `Out` where the seconds leave 48 bits, or the correction 64
 
 -- DelayResp and PDelayResp carry the request's correction less f
 abbrev pub withCorrection : WireTimestamp → CorrectionAnswer → Carried

@@ -1,4 +1,4 @@
--- Document 01, 'Wire form', and IEEE 1588-2019, clause 13, as data: where each field stands, and which message has which body.
+-- Clause 13 of IEEE 1588-2019 and 01's 'Wire form' as data: where each field stands, and which message has which body.
 use Prim.Native.Nat.{ℕ, _+_, _*_, _/_, _%_}
 use mathlib.Core.Bool.{Bool, cond}
 use mathlib.Core.List.{List, [], _∷_, _++_}
@@ -16,7 +16,7 @@ use Rattle.wire.specs.declared.Rest.{Rest}
 use Rattle.wire.specs.declared.Rest.the-variants as Q
 use Rattle.wire.specs.Bytes.{Place, Entry, _for_, _≔_, fieldAt, bytesOf}
 
--- ---- the common header (13.3.1, table 35)
+-- ---- the header (13.3): each field's first byte and width
 
 abbrev pub majorSdoId·messageType : Place
 majorSdoId·messageType = 0 for 1
@@ -42,9 +42,8 @@ correctionField = 8 for 8
 abbrev pub messageTypeSpecific : Place
 messageTypeSpecific = 16 for 4
 
--- the first byte of sourcePortIdentity
-abbrev pub sourcePortIdentity : ℕ
-sourcePortIdentity = 20
+abbrev pub sourcePortIdentity : Place
+sourcePortIdentity = 20 for 10
 
 abbrev pub sequenceId : Place
 sequenceId = 30 for 2
@@ -54,6 +53,21 @@ controlField = 32 for 1
 
 abbrev pub logMessageInterval : Place
 logMessageInterval = 33 for 1
+
+-- ---- the bodies: the timestamp is Sync's and Delay_Req's originTimestamp (13.6), Follow_Up's preciseOriginTimestamp (13.7), Delay_Resp's receiveTimestamp (13.8), Pdelay_Req's originTimestamp (13.9), Pdelay_Resp's requestReceiptTimestamp (13.10), Pdelay_Resp_Follow_Up's responseOriginTimestamp (13.11)
+
+abbrev pub timestamp : Place
+timestamp = 34 for 10
+
+-- 13.8, 13.10, 13.11
+abbrev pub requestingPortIdentity : Place
+requestingPortIdentity = 44 for 10
+
+-- 13.9
+abbrev pub reservedBytes : Place
+reservedBytes = 44 for 10
+
+-- ---- parts of a field
 
 -- a byte that two fields share, four bits each
 abbrev pub highHalf : ℕ → ℕ
@@ -65,14 +79,12 @@ lowHalf b = b % 16
 abbrev pub halves : ℕ → ℕ → ℕ
 halves h l = h * 16 + l
 
--- two-step is 0x02 in byte 6, the higher byte of the flags (13.3.2.8, table 37)
+-- two-step is 0x02 in byte 6, the higher byte of the flags
 abbrev pub twoStepFlag : ℕ
 twoStepFlag = 0x02 * 256
 
 unfoldable pub twoStep : Header → Bool
 twoStep h = eqb (h .flags / twoStepFlag % 2) 1
-
--- ---- what takes more than one field
 
 -- a Timestamp (5.3.3): six bytes of seconds, four of nanoseconds
 unfoldable pub timestampEntries : ℕ → WireTimestamp → List Entry
@@ -100,7 +112,7 @@ headerEntries h control =
     ∷ (flagField ≔ h .flags)
     ∷ (correctionField ≔ h .correction)
     ∷ (messageTypeSpecific ≔ 0)
-    ∷ (identityEntries sourcePortIdentity (h .source)
+    ∷ (identityEntries (sourcePortIdentity .at) (h .source)
     ++ ((sequenceId ≔ h .id)
     ∷ (controlField ≔ control)
     ∷ (logMessageInterval ≔ h .interval)
@@ -118,12 +130,12 @@ headerOf l =
       «minor_sdo» = fieldAt minorSdoId l;
       flags = fieldAt flagField l;
       correction = fieldAt correctionField l;
-      source = identityAt sourcePortIdentity l;
+      source = identityAt (sourcePortIdentity .at) l;
       id = fieldAt sequenceId l;
       interval = fieldAt logMessageInterval l;
     }
 
--- ---- the messages (01's table; 13.3.2.3, table 36; 13.3.2.13, table 42)
+-- ---- the messages: 01's table
 
 pub record Row : Type 0 where
   pub number : ℕ
@@ -149,7 +161,7 @@ kindOf k =
     named (M.Sync ∷ M.DelayReq ∷ M.PDelayReq ∷ M.PDelayResp ∷ M.FollowUp ∷ M.DelayResp ∷ M.PDelayRespFollowUp ∷ []) k
     (cond (eqb k 11) K.Host (cond (eqb k 12) K.Host (cond (eqb k 13) K.Host K.Reserved)))
 
--- ---- the bodies, from byte 34 on (13.6 to 13.11). Where the part behind the header is written by itself, `at` is 0
+-- ---- a body, written from byte `at` on and read: 34 in a message, and 0 in the part behind its header by itself
 
 abbrev pub body : ℕ
 body = 34
@@ -183,13 +195,13 @@ unfoldable pub bodyEntries : ℕ → Body → List Entry
 bodyEntries at b = timestampEntries at (timestampOf b) ++ restEntries (at + 10) (restIn b)
 
 unfoldable pub bodyOf : MessageType → List ℕ → Body
-bodyOf M.Sync l = B.Sync (timestampAt body l)
-bodyOf M.DelayReq l = B.DelayReq (timestampAt body l)
-bodyOf M.PDelayReq l = B.PDelayReq (timestampAt body l)
-bodyOf M.PDelayResp l = B.PDelayResp (timestampAt body l) (identityAt (body + 10) l)
-bodyOf M.FollowUp l = B.FollowUp (timestampAt body l)
-bodyOf M.DelayResp l = B.DelayResp (timestampAt body l) (identityAt (body + 10) l)
-bodyOf M.PDelayRespFollowUp l = B.PDelayRespFollowUp (timestampAt body l) (identityAt (body + 10) l)
+bodyOf M.Sync l = B.Sync (timestampAt (timestamp .at) l)
+bodyOf M.DelayReq l = B.DelayReq (timestampAt (timestamp .at) l)
+bodyOf M.PDelayReq l = B.PDelayReq (timestampAt (timestamp .at) l)
+bodyOf M.PDelayResp l = B.PDelayResp (timestampAt (timestamp .at) l) (identityAt (requestingPortIdentity .at) l)
+bodyOf M.FollowUp l = B.FollowUp (timestampAt (timestamp .at) l)
+bodyOf M.DelayResp l = B.DelayResp (timestampAt (timestamp .at) l) (identityAt (requestingPortIdentity .at) l)
+bodyOf M.PDelayRespFollowUp l = B.PDelayRespFollowUp (timestampAt (timestamp .at) l) (identityAt (requestingPortIdentity .at) l)
 
 abbrev pub typeOf : Body → MessageType
 typeOf (B.Sync t) = M.Sync
@@ -213,7 +225,7 @@ messageBytes h b = bytesOf (messageEntries h b)
 abbrev pub reservedIn : Kind → List Place
 reservedIn (K.Table M.Sync) = []
 reservedIn (K.Table M.DelayReq) = []
-reservedIn (K.Table M.PDelayReq) = (44 for 10) ∷ []
+reservedIn (K.Table M.PDelayReq) = reservedBytes ∷ []
 reservedIn (K.Table M.PDelayResp) = []
 reservedIn (K.Table M.FollowUp) = []
 reservedIn (K.Table M.DelayResp) = []

@@ -17,7 +17,7 @@ use Rattle.wire.specs.declared.Reading.the-variants as G
 use Rattle.wire.specs.Bytes.{fieldAt}
 use Rattle.wire.specs.Layout.{row, kindOf, headerOf, bodyOf, timestampAt, body, lowHalf, minorVersionPTP·versionPTP, majorSdoId·messageType, messageLength}
 
--- row 4: shorter than 2 bytes, or version not 2
+-- row 4: fewer than two bytes, or another version
 unfoldable pub row4 : List ℕ → Bool
 row4 l = ltb (length l) 2 || not (eqb (lowHalf (fieldAt minorVersionPTP·versionPTP l)) 2)
 

@@ -1,5 +1,4 @@
-// Any header and body written as a message, with one answer: the header first, the body into what lies
-// behind it.
+// Any header and body written as a message, with one answer.
 ghost use mathlib.Core.Path.{_≡_};
 ghost use Prim.Native.Nat.{_≤_};
 ghost use mathlib.Core.Bool.{true};
@@ -24,7 +23,7 @@ pub enum Written {
     Unfit,
 }
 
-// The header first, and the body into what lies behind it.
+// The header, and then the body into the rest.
 fn lay(packet: &mut [u8], header: Header, body: Body)
     requires { ⌜ (fitsOf header body ≡ true) × (row (typeOf body) .length ≤ length (now packet)) ⌝ }
     ensures { λ _. ⌜ now (packet .exit) ≡ messageBytes header body ++ drop (row (typeOf body) .length) (now (packet .entry)) ⌝ }
