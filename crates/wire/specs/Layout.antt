@@ -1,8 +1,8 @@
 -- Clause 13 of IEEE 1588-2019 and 01's 'Wire form' as data: where each field stands, and which message has which body.
 use Prim.Native.Nat.{ℕ, _+_, _*_, _/_, _%_}
-use mathlib.Core.Bool.{Bool, cond}
+use mathlib.Core.Bool.{Bool, false, cond, _&&_, _||_}
 use mathlib.Core.List.{List, [], _∷_, _++_}
-use lib.Dec.{eqb}
+use lib.Dec.{eqb, leb, ltb}
 use Rattle.time.specs.declared.WireTimestamp.{WireTimestamp}
 use Rattle.wire.specs.declared.Identity.{Identity}
 use Rattle.wire.specs.declared.Header.{Header}
@@ -241,3 +241,12 @@ abbrev pub readTo : Kind → ℕ
 readTo (K.Table t) = row t .length
 readTo K.Host = body
 readTo K.Reserved = body
+
+-- byte i lies in one of the places
+abbrev pub lies : List Place → ℕ → Bool
+lies [] i = false
+lies (p ∷ ps) i = (leb (p .at) i && ltb i (p .at + p .width)) || lies ps i
+
+-- byte i of a message of this kind is not read: it lies in such a place, or behind all that is read
+unfoldable pub unreadAt : Kind → ℕ → Bool
+unreadAt k i = leb (readTo k) i || lies (unread k) i

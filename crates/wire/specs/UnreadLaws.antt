@@ -15,19 +15,11 @@ use Rattle.wire.specs.declared.Kind.the-variants as K
 use Rattle.wire.specs.declared.Body.the-variants as B
 use Rattle.wire.specs.declared.Reading.the-variants as G
 use Rattle.wire.specs.Bytes.{Place, fieldAt, number}
-use Rattle.wire.specs.Layout.{row, headerOf, bodyOf, timestampAt, identityAt, body, lowHalf, kindOf, readTo, unread, reservedIn, messageLength}
+use Rattle.wire.specs.Layout.{row, headerOf, bodyOf, timestampAt, identityAt, body, lowHalf, kindOf, readTo, unread, lies, unreadAt, reservedIn, messageLength}
 use Rattle.wire.specs.Reading.{row4, row5, timed, messageOf, decoded, readOf, shortFor}
 use Rattle.wire.specs.BytesLaws.{neither, number-same, number-inside}
+use Rattle.wire.specs.LayoutLaws.{stamp-room}
 use Rattle.wire.specs.ReadingLaws.{kindIn, past-row5}
-
--- byte i lies in one of the places
-abbrev pub lies : List Place → ℕ → Bool
-lies [] i = false
-lies (p ∷ ps) i = (leb (p .at) i && ltb i (p .at + p .width)) || lies ps i
-
--- byte i of a message of this kind is not read: it lies in such a place, or behind all that is read
-unfoldable pub unreadAt : Kind → ℕ → Bool
-unreadAt k i = leb (readTo k) i || lies (unread k) i
 
 -- byte i lies in none of the places, as facts
 abbrev pub Outside : List Place → ℕ → Type 0
@@ -93,17 +85,8 @@ header-same l m e =
 abbrev pub Agree : Kind → List ℕ → List ℕ → Type 0
 Agree k l m = (i : ℕ) → unreadAt k i ≡ false → getD l i 0 ≡ getD m i 0
 
-to-timestamp : (t : MessageType) → 44 ≤ row t .length
-to-timestamp M.Sync = lit≤ tt
-to-timestamp M.DelayReq = lit≤ tt
-to-timestamp M.PDelayReq = lit≤ tt
-to-timestamp M.PDelayResp = lit≤ tt
-to-timestamp M.FollowUp = lit≤ tt
-to-timestamp M.DelayResp = lit≤ tt
-to-timestamp M.PDelayRespFollowUp = lit≤ tt
-
 to-header : (k : Kind) → 34 ≤ readTo k
-to-header (K.Table t) = omega (arith, to-timestamp t)
+to-header (K.Table t) = omega (arith, stamp-room t)
 to-header K.Host = lit≤ tt
 to-header K.Reserved = lit≤ tt
 
@@ -128,7 +111,7 @@ module _ (t : MessageType) (l m : List ℕ) (e : Agree (K.Table t) l m) where
   timestamp-read : timestampAt body l ≡ timestampAt body m
   unfolding unread
   timestamp-read =
-      timestamp-same body l m (λ i a b. e i (read-at-when (K.Table t) i (omega (arith, to-timestamp t)) (λ c d. omega arith, (λ c d. omega arith, reserved-behind (K.Table t) i (omega arith)))))
+      timestamp-same body l m (λ i a b. e i (read-at-when (K.Table t) i (omega (arith, stamp-room t)) (λ c d. omega arith, (λ c d. omega arith, reserved-behind (K.Table t) i (omega arith)))))
 
   requester-read : row t .length ≡ 54 → ((i : ℕ) → Outside (reservedIn (K.Table t)) i) → identityAt (body + 10) l ≡ identityAt (body + 10) m
   unfolding unread

@@ -26,14 +26,14 @@ use Rattle.wire.specs.declared.Reading.the-variants as G
 use Rattle.writing.specs.declared.Written.{Written}
 use Rattle.writing.specs.declared.Written.the-variants as W
 use Rattle.wire.specs.Bytes.{Entry, number, spell, bytesOf, sizeOf, tiles, fieldAt}
-use Rattle.wire.specs.Layout.{headerEntries, headerOf, timestampEntries, timestampAt, identityEntries, identityAt, bodyEntries, bodyOf, body, row, kindOf, typeOf, timestampOf, messageLength, unread, messageEntries, messageBytes}
+use Rattle.wire.specs.Layout.{headerEntries, headerOf, timestampEntries, timestampAt, identityEntries, identityAt, bodyEntries, bodyOf, body, row, kindOf, typeOf, timestampOf, messageLength, unread, unreadAt, messageEntries, messageBytes}
 use Rattle.wire.specs.Reading.{row4, row5, readOf, shortFor, reserved}
 use Rattle.writing.specs.Writing.{fitsOf, writeOf, leftBy, leftOf}
 use Rattle.wire.specs.BytesLaws.{both, Bytes, Fits, Reads, fits-parts, reads-parts, reads-back, number-lt, length-bytesOf, length-spell, spell-number}
-use Rattle.wire.specs.LayoutLaws.{message-tiles, length-message, number-kind, body-size}
+use Rattle.wire.specs.LayoutLaws.{message-tiles, length-message, number-kind, row-small, body-size}
 use Rattle.wire.specs.ReadingLaws.{kindIn, row4-passed, row5-passed, IsMessage, message-when, message-is}
 use Rattle.writing.specs.WritingLaws.{Fitting, fits-is, fits-when, write-when, write-is}
-use Rattle.wire.specs.UnreadLaws.{unreadAt, read-at-is}
+use Rattle.wire.specs.UnreadLaws.{read-at-is}
 
 -- ---- tables that stand in l read back
 
@@ -62,15 +62,6 @@ body-reads (B.PDelayRespFollowUp t i) l r =
 halves-back : (a b : ℕ) → b < 16 → ((a * 16 + b) / 16 ≡ a) × ((a * 16 + b) % 16 ≡ b)
 halves-back a b h = (omega arith, omega arith)
 
-number-small : (t : MessageType) → row t .number < 16
-number-small M.Sync = lit< tt
-number-small M.DelayReq = lit< tt
-number-small M.PDelayReq = lit< tt
-number-small M.PDelayResp = lit< tt
-number-small M.FollowUp = lit< tt
-number-small M.DelayResp = lit< tt
-number-small M.PDelayRespFollowUp = lit< tt
-
 -- what is written reads back, whatever lies behind it
 module _ (h : Header) (b : Body) (f : Fitting h b) (q : List ℕ) where
   abbrev control : ℕ
@@ -87,7 +78,7 @@ module _ (h : Header) (b : Body) (f : Fitting h b) (q : List ℕ) where
   unfolding headerOf headerEntries identityEntries identityAt
   header-back =
       let (r0, (r1, (r2, (r4, (r5, (r6, (r8, (r16, (r20, (r28, (r30, (r32, (r33, r))))))))))))) = stands .0 in
-      let (major, kind) = halves-back (h .«major_sdo») (h .kind) (rw (f .number-is) (number-small (typeOf b))) in
+      let (major, kind) = halves-back (h .«major_sdo») (h .kind) (rw (f .number-is) (row-small (typeOf b) .0)) in
       let (minor, version) = halves-back (h .minor) (h .version) (rw (f .version) (lit< tt)) in
       simp (r0, r1, r2, r4, r5, r6, r8, r20, r28, r30, r33, major, kind, minor, version)
 
@@ -219,15 +210,6 @@ table-same k l n (e ∷ es) b s t (o, os) =
 halves-joined : (x : ℕ) → x ≡ x / 16 * 16 + x % 16
 halves-joined x = omega arith
 
-control-small : (t : MessageType) → row t .control < 256
-control-small M.Sync = lit< tt
-control-small M.DelayReq = lit< tt
-control-small M.PDelayReq = lit< tt
-control-small M.PDelayResp = lit< tt
-control-small M.FollowUp = lit< tt
-control-small M.DelayResp = lit< tt
-control-small M.PDelayRespFollowUp = lit< tt
-
 header-origins : (k : Kind) (l : List ℕ) (c : ℕ) → c < 256 → Origins k l (headerEntries (headerOf l) c)
 unfolding headerEntries headerOf identityEntries identityAt unread
 header-origins k l c h =
@@ -258,7 +240,7 @@ read-writes l h b t bytes e n =
     let m : IsMessage l h b t = message-is l h b t e in
     let k : Kind = K.Table (typeOf b) in
     let c : ℕ = row (typeOf b) .control in
-    let head : Origins k l (headerEntries h c) = subst (λ (x : Header). Origins k l (headerEntries x c)) (sym (m .header-is)) (header-origins k l c (control-small (typeOf b))) in
+    let head : Origins k l (headerEntries h c) = subst (λ (x : Header). Origins k l (headerEntries x c)) (sym (m .header-is)) (header-origins k l c (row-small (typeOf b) .1)) in
     let rest : Origins k l (bodyEntries body b) = subst (λ (x : Body). Origins k l (bodyEntries body x)) (sym (m .body-is)) (body-origins (typeOf b) l) in
     let o : Origins k l (messageEntries h b) = origins-joined k l (headerEntries h c) (bodyEntries body b) head rest in
     let long : length (messageBytes h b) ≡ row (typeOf b) .length = length-message h b in
