@@ -2,42 +2,18 @@
 use Prim.Native.Nat.{ℕ, zero, suc, _+_, _-_, _*_, _^_, _/_, _%_, _≤_, _<_}
 use mathlib.Core.Path.{_≡_, refl, sym, _∙_, ap}
 use mathlib.Core.Bool.{Bool, true, false, _&&_, _||_}
-use mathlib.Core.List.{List, [], _∷_, _++_, append-assoc, append-nil}
-use native.Mathlib.Nat.{add-zero, zero-add, add-suc, suc-add, add-assoc, pow-suc, pow-le-pow-right, mul-assoc, add-mul, mul-add-div-right, mul-add-mod-self-right, div-add-mod', mod-lt}
+use mathlib.Core.List.{List, [], _∷_, _++_, append-assoc}
+use native.Mathlib.Nat.{add-zero, zero-add, add-suc, suc-add, add-assoc, pow-suc, pow-le-pow-right, div-add-mod'}
 use native.Mathlib.Numerals.{add-one}
 use native.Mathlib.Omega.{arith}
 use lib.ListN.{length, getD, set, take, drop, length-append, length-drop, List·getD-append}
-use lib.Seq.{sets, sets-eq, set-comm, getD-append-add, getD-at, getD-set-other, getD-drop, take-suc, take-add, drop-drop}
+use lib.Seq.{sets, sets-eq, set-comm, getD-append-add, getD-at, getD-drop, take-suc}
 use lib.Dec.{eqb, ltb}
 use borrow.Author.Tests.{eqb-true, ltb-true, lt-ltb}
 use Rattle.wire.specs.Bytes.{Entry, number, spell, put, puts, bytesOf, tiles, sizeOf, roomy, fieldAt}
 
--- m bytes and the n behind them, read as one number
-pub number-joined : (at m n : ℕ) (l : List ℕ) → number at (m + n) l ≡ number at m l * 256 ^ n + number (at + m) n l
-unfolding number
-number-joined at m zero l = rw add-zero (omega arith)
-number-joined at m (suc n) l =
-    let ih = number-joined at m n l in
-    rw (add-suc, pow-suc, ih, add-mul, mul-assoc, add-assoc, add-assoc) refl
-
-pow-pos : (n : ℕ) → 0 < 256 ^ n
-pow-pos zero = omega arith
-pow-pos (suc n) = omega (arith, pow-pos n, pow-suc 256 n)
-
 below : (v b : ℕ) → v < b * 256 → v / 256 < b
 below v b h = omega arith
-
--- a number of two parts is spelled by the one and then the other
-pub spell-joined : (m n a b : ℕ) → b < 256 ^ n → spell (m + n) (a * 256 ^ n + b) ≡ spell m a ++ spell n b
-unfolding spell
-spell-joined m zero a b h =
-    let z : a * 1 + b ≡ a = omega arith in
-    rw (add-zero, append-nil) (ap (spell m) z)
-spell-joined m (suc n) a b h =
-    let d : b / 256 < 256 ^ n = below b (256 ^ n) (rw pow-suc at h) in
-    let q : (a * 256 ^ n * 256 + b) / 256 ≡ a * 256 ^ n + b / 256 = mul-add-div-right (omega arith) (a * 256 ^ n) b in
-    let r : (a * 256 ^ n * 256 + b) % 256 ≡ b % 256 = mul-add-mod-self-right (a * 256 ^ n) 256 b in
-    rw (add-suc, pow-suc, ← mul-assoc, q, r, spell-joined m n a (b / 256) d, append-assoc) refl
 
 pub length-spell : (w v : ℕ) → length (spell w v) ≡ w
 unfolding spell
@@ -47,23 +23,6 @@ length-spell (suc w) v = omega (arith, length-append (spell w (v / 256)) (v % 25
 pub sets-joined : (l : List ℕ) (i : ℕ) (a b : List ℕ) → sets l i (a ++ b) ≡ sets (sets l i a) (i + length a) b
 sets-joined l i [] b = rw add-zero refl
 sets-joined l i (x ∷ a) b = rw (add-suc, ← suc-add) (sets-joined (set l i x) (suc i) a b)
-
-pub put-joined : (at m n a b : ℕ) (l : List ℕ) → b < 256 ^ n → put at (m + n) (a * 256 ^ n + b) l ≡ put (at + m) n b (put at m a l)
-unfolding put
-put-joined at m n a b l h = rw (spell-joined m n a b h, sets-joined, length-spell) refl
-
-pub put-split : (at m n v : ℕ) (l : List ℕ) → put at (m + n) v l ≡ put (at + m) n (v % 256 ^ n) (put at m (v / 256 ^ n) l)
-put-split at m n v l =
-    let h : v % 256 ^ n < 256 ^ n = mod-lt v (pow-pos n) in
-    ap (λ (x : ℕ). put at (m + n) x l) (sym (div-add-mod' v (256 ^ n))) ∙ put-joined at m n (v / 256 ^ n) (v % 256 ^ n) l h
-
--- what does not fit is cut off at the high end
-pub put-low : (at w v : ℕ) (l : List ℕ) → put at w (v % 256 ^ w) l ≡ put at w v l
-unfolding put spell
-put-low at w v l =
-    let h : v % 256 ^ w < 256 ^ w = mod-lt v (pow-pos w) in
-    let e : spell (0 + w) (v / 256 ^ w * 256 ^ w + v % 256 ^ w) ≡ spell w (v % 256 ^ w) = spell-joined 0 w (v / 256 ^ w) (v % 256 ^ w) h in
-    ap (sets l at) (sym (simp (zero-add, div-add-mod') at e))
 
 pub length-bytesOf : (es : List Entry) → length (bytesOf es) ≡ sizeOf es
 unfolding bytesOf sizeOf
@@ -182,15 +141,6 @@ number-same at (suc w) l m e =
     let f : (i : ℕ) → at ≤ i → i < at + w → getD l i 0 ≡ getD m i 0 = λ i a b. e i a (omega arith) in
     rw (number-same at w l m f, e (at + w) (omega arith) (omega arith)) refl
 
--- a byte that is not in the place does not matter
-pub number-set : (at w : ℕ) (l : List ℕ) (i x : ℕ) → ((j : ℕ) → at ≤ j → j < at + w → j ≡ i → ⊥) → number at w (set l i x) ≡ number at w l
-unfolding number
-number-set at zero l i x n = refl
-number-set at (suc w) l i x n =
-    let m : (j : ℕ) → at ≤ j → j < at + w → j ≡ i → ⊥ = λ j a b. n j a (omega arith) in
-    let k : at + w ≡ i → ⊥ = n (at + w) (omega arith) (omega arith) in
-    rw (number-set at w l i x m, getD-set-other l i (at + w) x 0 k) refl
-
 -- each element of l is a byte
 abbrev pub Bytes : List ℕ → Type 0
 Bytes l = (i : ℕ) → getD l i 0 < 256
@@ -216,18 +166,6 @@ pub bytesOf-append : (a b : List Entry) → bytesOf (a ++ b) ≡ bytesOf a ++ by
 unfolding bytesOf
 bytesOf-append [] b = refl
 bytesOf-append (e ∷ a) b = rw (bytesOf-append a b, append-assoc) refl
-
--- a table that is read off l, written again, gives l's bytes
-pub reads-copied : (n : ℕ) (es : List Entry) (l : List ℕ) → tiles n es ≡ true → Reads es l → ((i : ℕ) → getD l i 0 < 256) → n + sizeOf es ≤ length l → bytesOf es ≡ take (sizeOf es) (drop n l)
-unfolding tiles bytesOf sizeOf
-reads-copied n [] l t r b h = refl
-reads-copied n (e ∷ es) l t (r, rs) b h =
-    let w = e .place .width in
-    let t = both (eqb (e .place .at) n) (tiles (n + w) es) t in
-    let here : spell w (number n w l) ≡ take w (drop n l) = spell-number n w l b (omega arith) in
-    let val : number n w l ≡ e .value = ap (λ (k : ℕ). number k w l) (sym (eqb-true (e .place .at) n (t .0))) ∙ r in
-    let rest : bytesOf es ≡ take (sizeOf es) (drop (n + w) l) = reads-copied (n + w) es l (t .1) rs b (omega arith) in
-    rw (take-add, drop-drop, ← here, val, rest) refl
 
 pub set-sets : (l vs : List ℕ) (i k x : ℕ) → i + length vs ≤ k → sets (set l k x) i vs ≡ set (sets l i vs) k x
 set-sets l [] i k x h = refl

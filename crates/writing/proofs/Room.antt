@@ -1,6 +1,6 @@
 -- Which headers and bodies fit, told from the tests that the code makes.
-use Prim.Native.Nat.{ℕ, _*_, _+_, _^_, _<_}
-use mathlib.Core.Path.{_≡_, refl, sym, _∙_}
+use Prim.Native.Nat.{_+_, _^_, _<_}
+use mathlib.Core.Path.{_≡_, refl, sym}
 use mathlib.Core.Bool.{Bool, true, false, _&&_}
 use mathlib.Core.List.{List, [], _∷_, _++_}
 use lib.Dec.{ltb}

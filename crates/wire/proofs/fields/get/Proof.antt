@@ -1,15 +1,11 @@
-use Prim.Native.Nat.{_+_, _-_, _^_, _≤_, _<_}
-use mathlib.Core.Path.{_≡_, refl, _∙_}
+use Prim.Native.Nat.{_-_, _^_, _≤_, _<_}
+use mathlib.Core.Path.{_≡_}
 use native.Mathlib.Omega.{arith}
 use borrow.Author.Needs.{needs}
-use lib.ListN.{length, length-set}
-use Rattle.wire.specs.Bytes.{number, put}
-use Rattle.wire.specs.BytesLaws.{room, grow, number-next, put-next, number-zero, put-zero}
+use Rattle.wire.specs.Bytes.{number}
+use Rattle.wire.specs.BytesLaws.{room, grow, number-next, number-zero}
 use Rattle.wire.proofs.fields.get.Statement.{statement}
 use Rattle.wire.proofs.fields.get.Tie as tie
-use Rattle.wire.proofs.fields.get.Reads as reads
-use Rattle.wire.proofs.fields.get.Lts as lts
-use Rattle.wire.proofs.fields.wide.Reads as wide-reads
 
 abbrev Inv-loop : tie.InvT-loop
 Inv-loop s at width r₀ i₀ r i = (i ≤ width) × (r ≡ number at i s) × (r < 256 ^ i)

@@ -1,14 +1,12 @@
-use Prim.Native.Nat.{_+_, _-_, _^_, _≤_, _<_}
+use Prim.Native.Nat.{_-_, _≤_}
 use mathlib.Core.Path.{_≡_, refl, _∙_}
 use native.Mathlib.Omega.{arith}
 use borrow.Author.Needs.{needs}
 use lib.ListN.{length, length-set}
-use Rattle.wire.specs.Bytes.{number, put}
-use Rattle.wire.specs.BytesLaws.{room, grow, number-next, put-next, number-zero, put-zero}
+use Rattle.wire.specs.Bytes.{put}
+use Rattle.wire.specs.BytesLaws.{put-next, put-zero}
 use Rattle.writing.proofs.fields.put.Statement.{statement}
 use Rattle.writing.proofs.fields.put.Tie as tie
-use Rattle.writing.proofs.fields.put.Reads as reads
-use Rattle.writing.proofs.fields.put.Lts as lts
 
 abbrev Inv-loop : tie.InvT-loop
 Inv-loop buf₀ at width value v₀ i₀ buf v i = (put at i v buf ≡ put at width value buf₀) × (length buf ≡ length buf₀) × (i ≤ width)
