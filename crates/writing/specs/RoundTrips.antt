@@ -23,16 +23,15 @@ use Rattle.wire.specs.declared.Header.{Header}
 use Rattle.wire.specs.declared.Body.{Body}
 use Rattle.wire.specs.declared.Body.the-variants as B
 use Rattle.wire.specs.declared.Reading.the-variants as G
-use Rattle.writing.specs.declared.Written.{Written}
 use Rattle.writing.specs.declared.Written.the-variants as W
 use Rattle.wire.specs.Bytes.{Entry, number, spell, bytesOf, sizeOf, tiles, fieldAt}
 use Rattle.wire.specs.Layout.{headerEntries, headerOf, timestampEntries, timestampAt, identityEntries, identityAt, bodyEntries, bodyOf, body, row, kindOf, typeOf, timestampOf, messageLength, unread, unreadAt, messageEntries, messageBytes}
 use Rattle.wire.specs.Reading.{row4, row5, readOf, shortFor, reserved}
-use Rattle.writing.specs.Writing.{fitsOf, writeOf, leftBy, leftOf}
+use Rattle.writing.specs.Writing.{fitsOf, writeOf, leftOf}
 use Rattle.wire.specs.BytesLaws.{both, Bytes, Fits, Reads, fits-parts, reads-parts, reads-back, number-lt, length-bytesOf, length-spell, spell-number}
 use Rattle.wire.specs.LayoutLaws.{message-tiles, length-message, number-kind, row-small, body-size}
 use Rattle.wire.specs.ReadingLaws.{kindIn, row4-passed, row5-passed, IsMessage, message-when, message-is}
-use Rattle.writing.specs.WritingLaws.{Fitting, fits-is, fits-when, write-when, write-is}
+use Rattle.writing.specs.WritingLaws.{Fitting, fits-is, fits-when, write-when, write-is, left-when}
 use Rattle.wire.specs.UnreadLaws.{read-at-is}
 
 -- ---- tables that stand in l read back
@@ -128,13 +127,12 @@ pub record Wrote (h : Header) (b : Body) (l : List ℕ) (n : ℕ) : Type 0 where
   pub reads-front : readOf (messageBytes h b) ≡ G.Message h b time
 
 pub written-reads : (h : Header) (b : Body) (l : List ℕ) (n : ℕ) → writeOf h b (length l) ≡ W.Length n → Wrote h b l n
-unfolding leftOf
 written-reads h b l n e =
     let (fit, enough, same) = write-is h b (length l) n e in
     let f : Fitting h b = fits-is h b fit in
     let whole : length (messageBytes h b) ≡ n = length-message h b ∙ sym same in
     let there : n ≤ length l = rw same enough in
-    let left : leftOf h b l ≡ messageBytes h b ++ drop n l = ap (λ (w : Written). leftBy w (messageBytes h b) l) e in
+    let left : leftOf h b l ≡ messageBytes h b ++ drop n l = left-when h b l n e in
     record {
       length-is = same;
       room = there;

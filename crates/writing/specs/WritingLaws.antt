@@ -1,15 +1,21 @@
 -- Laws of writing, for callers: what fits, and when a message is written.
 use Prim.Native.Nat.{ℕ, _≤_, _<_}
-use mathlib.Core.Path.{_≡_, refl}
+use mathlib.Core.Path.{_≡_, refl, ap}
 use mathlib.Core.Bool.{Bool, true, false, cond, _&&_}
+use mathlib.Core.List.{List, [], _∷_, _++_}
 use lib.Dec.{ltb, eqb}
+use lib.IntN.{pos}
+use lib.ListN.{length, drop}
 use borrow.Author.Tests.{ltb-true, ltb-false, lt-ltb, le-ltb, eqb-true, eq-eqb}
 use Rattle.wire.specs.declared.Header.{Header}
 use Rattle.wire.specs.declared.Body.{Body}
+use Rattle.time.specs.Numbers.{answered, refusal}
+use Rattle.writing.specs.declared.Written.{Written}
 use Rattle.writing.specs.declared.Written.the-variants as W
 use Rattle.wire.specs.Bytes.{roomy}
-use Rattle.wire.specs.Layout.{row, typeOf, messageEntries}
-use Rattle.writing.specs.Writing.{together, fitsOf, writeOf}
+use Rattle.wire.specs.Layout.{row, typeOf, messageEntries, messageBytes}
+use Rattle.writing.specs.Writing.{together, fitsOf, writeOf, leftBy, leftOf}
+use Rattle.writing.specs.Numbers.{told}
 use Rattle.wire.specs.BytesLaws.{both, apart, Fits, roomy-fits, fits-roomy}
 
 -- `fitsOf` as facts
@@ -62,3 +68,18 @@ unfolding writeOf
 write-is h b room n e =
     let (fit, short, same) = picked (fitsOf h b) (ltb room (row (typeOf b) .length)) (row (typeOf b) .length) n e in
     (fit, ltb-false room (row (typeOf b) .length) short, same)
+
+-- what is left of the buffer then
+pub left-when : (h : Header) (b : Body) (l : List ℕ) (n : ℕ) → writeOf h b (length l) ≡ W.Length n → leftOf h b l ≡ messageBytes h b ++ drop n l
+unfolding leftOf
+left-when h b l n e = ap (λ (w : Written). leftBy w (messageBytes h b) l) e
+
+-- and in 01's terms, for all inputs
+told-picked : (fit short : Bool) (n : ℕ) → told (cond fit (cond short W.Short (W.Length n)) W.Unfit) ≡ cond fit (cond short (refusal 1) (answered (pos n ∷ []))) (refusal 2)
+told-picked true true n = refl
+told-picked true false n = refl
+told-picked false short n = refl
+
+pub told-write : (h : Header) (b : Body) (room : ℕ) → told (writeOf h b room) ≡ cond (fitsOf h b) (cond (ltb room (row (typeOf b) .length)) (refusal 1) (answered (pos (row (typeOf b) .length) ∷ []))) (refusal 2)
+unfolding writeOf
+told-write h b room = told-picked (fitsOf h b) (ltb room (row (typeOf b) .length)) (row (typeOf b) .length)
