@@ -16,13 +16,12 @@ use Rattle.time.specs.Units.{spelled, time, wire, wireOf, signed, correction}
 use Rattle.time.specs.Laws.{signed-low}
 use Rattle.time.specs.WireLaws.{Sent, wire-is, wire-sent, wire-out, wire-out-is}
 use Rattle.time.specs.Lemmas.Integers.{pos-sub, negsuc-sub, difference-is, product-is, not-below}
-use Rattle.wire.specs.declared.Header.{Header}
 use Rattle.wire.specs.BytesLaws.{apart}
 use Rattle.sent.specs.declared.CorrectionAnswer.{CorrectionAnswer}
 use Rattle.sent.specs.declared.CorrectionAnswer.the-variants as C
 use Rattle.sent.specs.declared.Carried.the-variants as S
-use Rattle.sent.specs.Messages.{correctionOf, withCorrection, lessFraction, answerStamp, fraction, followStamp}
-use Rattle.sent.specs.Laws.{inCorrection, IsCorrection, correction-is, correction-out-when, correction-out-is}
+use Rattle.sent.specs.Messages.{inCorrection, correctionOf, withCorrection, lessFraction, answerStamp, fraction, followStamp}
+use Rattle.sent.specs.Laws.{IsCorrection, correction-is, correction-out-when, correction-out-is}
 
 -- ---- a stamp's numbers
 
@@ -42,8 +41,8 @@ abbrev pub lateFrom : ℕ
 lateFrom = 2 ^ 48 * 10 ^ 9 * 2 ^ 32
 
 -- what an answer's correction has to be
-abbrev pub lessOf : Header → Time → ℤ
-lessOf request t = signed 64 (request .correction) -ℤ pos (fractionOf t)
+abbrev pub lessOf : ℕ → Time → ℤ
+lessOf asked t = signed 64 asked -ℤ pos (fractionOf t)
 
 -- ---- what was carried
 
@@ -112,9 +111,7 @@ scaled : (x f : ℕ) (z : ℤ) → Scaled x f z
 scaled x f (pos n) = subst (Scaled x f) (sym (pos-sub n)) (scaled-difference x f n 0)
 scaled x f (negsuc n) = subst (Scaled x f) (sym (negsuc-sub n)) (scaled-difference x f 0 (suc n))
 
-module _ (request : Header) (t : Time) (w : WireTimestamp) (c : ℕ) (e : answerStamp request t ≡ S.Value w c) where
-  abbrev asked : ℕ
-  asked = request .correction
+module _ (asked : ℕ) (t : Time) (w : WireTimestamp) (c : ℕ) (e : answerStamp asked t ≡ S.Value w c) where
 
   parts : Parts asked (wireOf (time t)) w c
   unfolding answerStamp
@@ -164,33 +161,33 @@ unfolding followStamp time
 follow-out-is t e = wire-out-is (unitsOf t) (fraction-out (wireOf (time t)) e)
 
 -- an answer may be too late too, and where it is not its correction may leave 64 bits
-pub answer-timely : (request : Header) (t : Time) → unitsOf t < lateFrom → answerStamp request t ≡ withCorrection (stampOf t) (correctionOf (lessOf request t))
+pub answer-timely : (asked : ℕ) (t : Time) → unitsOf t < lateFrom → answerStamp asked t ≡ withCorrection (stampOf t) (correctionOf (lessOf asked t))
 unfolding answerStamp time
-answer-timely request t h = ap (lessFraction (request .correction)) (wire-sent (unitsOf t) h)
+answer-timely asked t h = ap (lessFraction asked) (wire-sent (unitsOf t) h)
 
-answer-late : (request : Header) (t : Time) → lateFrom ≤ unitsOf t → answerStamp request t ≡ S.Out
+answer-late : (asked : ℕ) (t : Time) → lateFrom ≤ unitsOf t → answerStamp asked t ≡ S.Out
 unfolding answerStamp time
-answer-late request t h = ap (lessFraction (request .correction)) (wire-out (unitsOf t) h)
+answer-late asked t h = ap (lessFraction asked) (wire-out (unitsOf t) h)
 
 with-out : (w : WireTimestamp) (k : CorrectionAnswer) → withCorrection w k ≡ S.Out → k ≡ C.Out
 with-out w (C.Value c) e = absurd (apart cc)
 with-out w C.Out e = refl
 
-module _ (request : Header) (t : Time) where
+module _ (asked : ℕ) (t : Time) where
   abbrev pub Unanswered : Type 0
-  Unanswered = (lateFrom ≤ unitsOf t) ⊎ (inCorrection (lessOf request t) ≡ false)
+  Unanswered = (lateFrom ≤ unitsOf t) ⊎ (inCorrection (lessOf asked t) ≡ false)
 
-  pub answer-out-when : Unanswered → answerStamp request t ≡ S.Out
-  answer-out-when (inl h) = answer-late request t h
+  pub answer-out-when : Unanswered → answerStamp asked t ≡ S.Out
+  answer-out-when (inl h) = answer-late asked t h
   answer-out-when (inr h) = go (decLt (unitsOf t) lateFrom)
     where
-      go : Dec (unitsOf t < lateFrom) → answerStamp request t ≡ S.Out
-      go (yes k) = answer-timely request t k ∙ ap (withCorrection (stampOf t)) (correction-out-when (lessOf request t) h)
-      go (no k) = answer-late request t (not-below (unitsOf t) lateFrom k)
+      go : Dec (unitsOf t < lateFrom) → answerStamp asked t ≡ S.Out
+      go (yes k) = answer-timely asked t k ∙ ap (withCorrection (stampOf t)) (correction-out-when (lessOf asked t) h)
+      go (no k) = answer-late asked t (not-below (unitsOf t) lateFrom k)
 
-  pub answer-out-is : answerStamp request t ≡ S.Out → Unanswered
+  pub answer-out-is : answerStamp asked t ≡ S.Out → Unanswered
   answer-out-is e = go (decLt (unitsOf t) lateFrom)
     where
       go : Dec (unitsOf t < lateFrom) → Unanswered
-      go (yes k) = inr (correction-out-is (lessOf request t) (with-out (stampOf t) (correctionOf (lessOf request t)) (sym (answer-timely request t k) ∙ e)))
+      go (yes k) = inr (correction-out-is (lessOf asked t) (with-out (stampOf t) (correctionOf (lessOf asked t)) (sym (answer-timely asked t k) ∙ e)))
       go (no k) = inl (not-below (unitsOf t) lateFrom k)

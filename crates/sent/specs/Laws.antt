@@ -1,21 +1,17 @@
 -- Laws of sent corrections, for callers to cite: which are sent, and that what is sent means what was asked for.
 use Prim.Native.Nat.{ℕ, suc, _+_, _-_, _^_, _<_, _≤_}
 use mathlib.Core.Path.{_≡_, sym, ap, _∙_}
-use mathlib.Core.Bool.{Bool, true, false, and-true}
+use mathlib.Core.Bool.{true, false, and-true}
 use native.Mathlib.Omega.{arith}
 use lib.Dec.{leb, ltb, leb·suc-suc}
-use lib.IntN.{ℤ, pos, negsuc, negℤ, subℕ, _-ℤ_}
+use lib.IntN.{ℤ, pos, negsuc, subℕ, _-ℤ_}
 use lib.Signed.{mag}
 use borrow.Author.Tests.{lt-ltb, le-ltb, ltb-true}
 use Rattle.time.specs.Units.{within, signed}
 use Rattle.time.specs.Laws.{was-value, was-refused, signed-low, signed-high}
 use Rattle.time.specs.Lemmas.Integers.{sub-ge, sub-lt, pos-minus, pos-sub, difference-is}
 use Rattle.sent.specs.declared.CorrectionAnswer.the-variants as C
-use Rattle.sent.specs.Messages.{word, correctionOf}
-
--- what 64 bits hold
-abbrev pub inCorrection : ℤ → Bool
-inCorrection z = within (negℤ (pos (2 ^ 63))) (pos (2 ^ 63 - 1)) z
+use Rattle.sent.specs.Messages.{inCorrection, word, correctionOf}
 
 -- as one bound of ℕ: `mag z` is n both for n and for -(n + 1)
 in-correction : (z : ℤ) → inCorrection z ≡ ltb (mag z) (2 ^ 63)

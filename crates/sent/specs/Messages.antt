@@ -1,6 +1,6 @@
 -- Document 01, 'Sent messages': header and body values of the seven messages, in the order of its table.
 use Prim.Native.Nat.{ℕ, suc, _-_, _/_, _%_, _^_}
-use mathlib.Core.Bool.{cond}
+use mathlib.Core.Bool.{Bool, cond}
 use lib.IntN.{ℤ, pos, negsuc, negℤ, _-ℤ_}
 use Rattle.time.specs.declared.Time.{Time}
 use Rattle.time.specs.declared.WireTimestamp.{WireTimestamp}
@@ -54,13 +54,17 @@ noInterval = 0x7f
 unfoldable pub zeroTimestamp : WireTimestamp
 zeroTimestamp = record { seconds = 0; nanos = 0 }
 
+-- what 64 bits hold
+abbrev pub inCorrection : ℤ → Bool
+inCorrection z = within (negℤ (pos (2 ^ 63))) (pos (2 ^ 63 - 1)) z
+
 -- the correction field of so many 2 ^ -16 ns, or `Out` where 64 bits do not hold it
 abbrev pub word : ℤ → ℕ
 word (pos n) = n
 word (negsuc n) = 2 ^ 64 - suc n
 
 unfoldable pub correctionOf : ℤ → CorrectionAnswer
-correctionOf z = cond (within (negℤ (pos (2 ^ 63))) (pos (2 ^ 63 - 1)) z) (C.Value (word z)) C.Out
+correctionOf z = cond (inCorrection z) (C.Value (word z)) C.Out
 
 -- ---- what is carried of a stamp: its timestamp, and in the correction f, the first 16 bits of what is left of a nanosecond. `Out` where the seconds leave 48 bits, or the correction 64
 
@@ -73,8 +77,8 @@ abbrev pub lessFraction : ℕ → WireAnswer → Carried
 lessFraction c (W.Value w f) = withCorrection w (correctionOf (signed 64 c -ℤ pos f))
 lessFraction c W.Out = S.Out
 
-unfoldable pub answerStamp : Header → Time → Carried
-answerStamp request received = lessFraction (request .correction) (wireOf (time received))
+unfoldable pub answerStamp : ℕ → Time → Carried
+answerStamp asked received = lessFraction asked (wireOf (time received))
 
 -- FollowUp and PDelayRespFollowUp carry f
 abbrev pub fraction : WireAnswer → Carried
@@ -107,12 +111,12 @@ pDelayReqOf s id = record { header = headerFor s M.PDelayReq noFlag 0 id noInter
 -- answers copy the request's id and name its source as requester
 unfoldable pub pDelayRespOf : Sender → Header → Time → MessageAnswer
 pDelayRespOf s request received =
-    carrying (answerStamp request received)
+    carrying (answerStamp (request .correction) received)
     (λ w c. record { header = headerFor s M.PDelayResp twoStepFlag c (request .id) noInterval; body = B.PDelayResp w (request .source) })
 
 unfoldable pub delayRespOf : Sender → Header → ℕ → Time → MessageAnswer
 delayRespOf s request delayInterval received =
-    carrying (answerStamp request received)
+    carrying (answerStamp (request .correction) received)
     (λ w c. record { header = headerFor s M.DelayResp noFlag c (request .id) delayInterval; body = B.DelayResp w (request .source) })
 
 unfoldable pub pDelayRespFollowUpOf : Sender → ℕ → Identity → Time → MessageAnswer

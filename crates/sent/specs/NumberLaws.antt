@@ -18,9 +18,8 @@ use Rattle.sent.specs.declared.CorrectionAnswer.{CorrectionAnswer}
 use Rattle.sent.specs.declared.CorrectionAnswer.the-variants as C
 use Rattle.sent.specs.declared.Carried.{Carried}
 use Rattle.sent.specs.declared.Carried.the-variants as S
-use Rattle.sent.specs.Messages.{word, correctionOf, withCorrection, answerStamp, followStamp, carrying, followUpOf, pDelayRespOf, delayRespOf, pDelayRespFollowUpOf}
+use Rattle.sent.specs.Messages.{inCorrection, word, correctionOf, withCorrection, answerStamp, followStamp, carrying, followUpOf, pDelayRespOf, delayRespOf, pDelayRespFollowUpOf}
 use Rattle.sent.specs.Numbers.{correctionNumber, carriedNumber, messageNumber}
-use Rattle.sent.specs.Laws.{inCorrection}
 use Rattle.sent.specs.CarriedLaws.{unitsOf, lateFrom, lessOf, stampOf, follow-timely, follow-out-when, answer-timely, answer-out-when}
 
 picked : (b : Bool) (c : ℕ) → correctionNumber (cond b (C.Value c) C.Out) ≡ cond b 0 7
@@ -44,16 +43,16 @@ with-number : (w : WireTimestamp) (k : CorrectionAnswer) → carriedNumber (with
 with-number w (C.Value c) = refl
 with-number w C.Out = refl
 
-pub answer-number : (request : Header) (t : Time) → carriedNumber (answerStamp request t) ≡ cond (ltb (unitsOf t) lateFrom) (cond (inCorrection (lessOf request t)) 0 7) 7
-answer-number request t = go (decLt (unitsOf t) lateFrom)
+pub answer-number : (asked : ℕ) (t : Time) → carriedNumber (answerStamp asked t) ≡ cond (ltb (unitsOf t) lateFrom) (cond (inCorrection (lessOf asked t)) 0 7) 7
+answer-number asked t = go (decLt (unitsOf t) lateFrom)
   where
-    go : Dec (unitsOf t < lateFrom) → carriedNumber (answerStamp request t) ≡ cond (ltb (unitsOf t) lateFrom) (cond (inCorrection (lessOf request t)) 0 7) 7
+    go : Dec (unitsOf t < lateFrom) → carriedNumber (answerStamp asked t) ≡ cond (ltb (unitsOf t) lateFrom) (cond (inCorrection (lessOf asked t)) 0 7) 7
     go (yes h) =
         rw (lt-ltb (unitsOf t) lateFrom h)
-        (ap carriedNumber (answer-timely request t h) ∙ with-number (stampOf t) (correctionOf (lessOf request t)) ∙ correction-number (lessOf request t))
+        (ap carriedNumber (answer-timely asked t h) ∙ with-number (stampOf t) (correctionOf (lessOf asked t)) ∙ correction-number (lessOf asked t))
     go (no h) =
         let k = not-below (unitsOf t) lateFrom h in
-        rw (le-ltb (unitsOf t) lateFrom k) (ap carriedNumber (answer-out-when request t (inl k)))
+        rw (le-ltb (unitsOf t) lateFrom k) (ap carriedNumber (answer-out-when asked t (inl k)))
 
 -- ---- the messages
 
@@ -66,13 +65,13 @@ module _ (s : Sender) where
   unfolding followUpOf
   follow-up-number id syncInterval t = carrying-number (followStamp t) _ ∙ follow-number t
 
-  pub pdelay-resp-number : (request : Header) (t : Time) → messageNumber (pDelayRespOf s request t) ≡ cond (ltb (unitsOf t) lateFrom) (cond (inCorrection (lessOf request t)) 0 7) 7
+  pub pdelay-resp-number : (request : Header) (t : Time) → messageNumber (pDelayRespOf s request t) ≡ cond (ltb (unitsOf t) lateFrom) (cond (inCorrection (lessOf (request .correction) t)) 0 7) 7
   unfolding pDelayRespOf
-  pdelay-resp-number request t = carrying-number (answerStamp request t) _ ∙ answer-number request t
+  pdelay-resp-number request t = carrying-number (answerStamp (request .correction) t) _ ∙ answer-number (request .correction) t
 
-  pub delay-resp-number : (request : Header) (delayInterval : ℕ) (t : Time) → messageNumber (delayRespOf s request delayInterval t) ≡ cond (ltb (unitsOf t) lateFrom) (cond (inCorrection (lessOf request t)) 0 7) 7
+  pub delay-resp-number : (request : Header) (delayInterval : ℕ) (t : Time) → messageNumber (delayRespOf s request delayInterval t) ≡ cond (ltb (unitsOf t) lateFrom) (cond (inCorrection (lessOf (request .correction) t)) 0 7) 7
   unfolding delayRespOf
-  delay-resp-number request delayInterval t = carrying-number (answerStamp request t) _ ∙ answer-number request t
+  delay-resp-number request delayInterval t = carrying-number (answerStamp (request .correction) t) _ ∙ answer-number (request .correction) t
 
   pub pdelay-resp-follow-up-number : (id : ℕ) (requester : Identity) (t : Time) → messageNumber (pDelayRespFollowUpOf s id requester t) ≡ cond (ltb (unitsOf t) lateFrom) 0 7
   unfolding pDelayRespFollowUpOf

@@ -153,14 +153,14 @@ module _ (s : Sender) (l : InLimits s) where
     pub pdelay-resp-sends : pDelayRespOf s request t ≡ A.Value m → Sendable m 54
     unfolding pDelayRespOf
     pdelay-resp-sends =
-        carrying-sends (answerStamp request t) _ m 54
-        (λ w c e. sends (B.PDelayResp w (request .source)) twoStepFlag c (request .id) noInterval (answer-room request t w c e) (requester-fits (body + 10) (request .source) q) (lit< tt) i (lit< tt))
+        carrying-sends (answerStamp (request .correction) t) _ m 54
+        (λ w c e. sends (B.PDelayResp w (request .source)) twoStepFlag c (request .id) noInterval (answer-room (request .correction) t w c e) (requester-fits (body + 10) (request .source) q) (lit< tt) i (lit< tt))
 
     pub delay-resp-sends : (delayInterval : ℕ) → delayInterval < 256 → delayRespOf s request delayInterval t ≡ A.Value m → Sendable m 54
     unfolding delayRespOf
     delay-resp-sends delayInterval v =
-        carrying-sends (answerStamp request t) _ m 54
-        (λ w c e. sends (B.DelayResp w (request .source)) noFlag c (request .id) delayInterval (answer-room request t w c e) (requester-fits (body + 10) (request .source) q) (lit< tt) i v)
+        carrying-sends (answerStamp (request .correction) t) _ m 54
+        (λ w c e. sends (B.DelayResp w (request .source)) noFlag c (request .id) delayInterval (answer-room (request .correction) t w c e) (requester-fits (body + 10) (request .source) q) (lit< tt) i v)
 
 -- ---- when nothing is made: exactly where nothing is carried
 
@@ -173,13 +173,13 @@ module _ (s : Sender) where
   unfolding followUpOf
   follow-up-out id syncInterval t = carrying-out (followStamp t) _
 
-  pub pdelay-resp-out : (request : Header) (t : Time) → (pDelayRespOf s request t ≡ A.Out) ↔ (answerStamp request t ≡ S.Out)
+  pub pdelay-resp-out : (request : Header) (t : Time) → (pDelayRespOf s request t ≡ A.Out) ↔ (answerStamp (request .correction) t ≡ S.Out)
   unfolding pDelayRespOf
-  pdelay-resp-out request t = carrying-out (answerStamp request t) _
+  pdelay-resp-out request t = carrying-out (answerStamp (request .correction) t) _
 
-  pub delay-resp-out : (request : Header) (delayInterval : ℕ) (t : Time) → (delayRespOf s request delayInterval t ≡ A.Out) ↔ (answerStamp request t ≡ S.Out)
+  pub delay-resp-out : (request : Header) (delayInterval : ℕ) (t : Time) → (delayRespOf s request delayInterval t ≡ A.Out) ↔ (answerStamp (request .correction) t ≡ S.Out)
   unfolding delayRespOf
-  delay-resp-out request delayInterval t = carrying-out (answerStamp request t) _
+  delay-resp-out request delayInterval t = carrying-out (answerStamp (request .correction) t) _
 
   pub pdelay-resp-follow-up-out : (id : ℕ) (requester : Identity) (t : Time) → (pDelayRespFollowUpOf s id requester t ≡ A.Out) ↔ (followStamp t ≡ S.Out)
   unfolding pDelayRespFollowUpOf

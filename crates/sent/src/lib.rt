@@ -1,7 +1,6 @@
 // What the port sends (document 01, 'Sent messages'): the header and body values of the seven messages,
 // from one Sender. Nothing is written here: crate writing does that.
 ghost use mathlib.Core.Path.{_≡_};
-ghost use Prim.Native.Nat.{_*_, _/_, _%_};
 ghost use lib.IntN.{pos, _-ℤ_};
 ghost use Rattle.time.specs.Units.{signed};
 ghost use Rattle.sent.specs.Messages.{correctionOf, answerStamp, followStamp, headerFor, syncOf, followUpOf, delayReqOf, delayRespOf, pDelayReqOf, pDelayRespOf, pDelayRespFollowUpOf, zeroTimestamp};
@@ -80,9 +79,9 @@ pub fn less_fraction(c: u64, f: u16) -> CorrectionAnswer
     }
 }
 
-// What the answer to a request carries of the stamp at which the request came.
-pub fn answer_stamp(request: Header, received: Time) -> Carried
-    ensures { λ r. ⌜ r ≡ answerStamp request received ⌝ }
+// What the answer to a request with this correction carries of the stamp at which the request came.
+pub fn answer_stamp(asked: u64, received: Time) -> Carried
+    ensures { λ r. ⌜ r ≡ answerStamp asked received ⌝ }
 {
     let stamp = received.to_wire();
     match stamp {
@@ -90,7 +89,7 @@ pub fn answer_stamp(request: Header, received: Time) -> Carried
             timestamp,
             fraction,
         } => {
-            let less = less_fraction(request.correction, fraction);
+            let less = less_fraction(asked, fraction);
             match less {
                 CorrectionAnswer::Value(correction) => Carried::Value {
                     timestamp,
@@ -202,7 +201,7 @@ impl Sender {
     pub fn pdelay_resp(self, request: Header, received: Time) -> MessageAnswer
         ensures { λ r. ⌜ r ≡ pDelayRespOf self request received ⌝ }
     {
-        let carried = answer_stamp(request, received);
+        let carried = answer_stamp(request.correction, received);
         match carried {
             Carried::Value {
                 timestamp,
@@ -226,7 +225,7 @@ impl Sender {
     pub fn delay_resp(self, request: Header, interval: u8, received: Time) -> MessageAnswer
         ensures { λ r. ⌜ r ≡ delayRespOf self request interval received ⌝ }
     {
-        let carried = answer_stamp(request, received);
+        let carried = answer_stamp(request.correction, received);
         match carried {
             Carried::Value {
                 timestamp,
