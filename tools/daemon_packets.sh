@@ -1,7 +1,7 @@
 #!/bin/sh
 # daemon_packets.sh [SECONDS [FOLDER]]: packets of ptp4l and ptpd, decoded by tshark and by our reader.
 #
-# Lets a master and a slave talk for so many seconds (15 if not said) over a virtual link between two
+# Lets a master and a slave talk for so many seconds (15 if not said; ptpd sends nothing in the first 6) over a virtual link between two
 # network namespaces, for each daemon, delay mechanism and transport below, captures what the slave's end
 # sees, and hands the captures to tools/tshark_packets.py. They are kept if a folder for them is named.
 # Among ptp4l's packets are two kinds that are the host's: Management, since its command pmc asks

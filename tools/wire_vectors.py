@@ -155,6 +155,10 @@ def two_step(flags):
     return line("f", *record(plain(0, flags=flags), HEADER)), f"f {flags.to_bytes(2, 'big')[0] // 2 % 2}"
 
 
+def sdo_id(major, minor):
+    return line("d", *record(plain(0, major=major, minor_sdo=minor), HEADER)), f"d {major * 256 + minor}"
+
+
 def kind_of(n):
     if n in TABLE:
         control, length, _ = TABLE[n]
@@ -333,6 +337,8 @@ def questions():
         yield kind_of(n)
     for flags in (*(2**n for n in range(16)), 0, 0x0300, 0x0600, 0xFDFF, 0xFFFF):
         yield two_step(flags)
+    for major, minor in ((0, 0), (0, 1), (1, 0), (0, 255), (10, 0x5B), (15, 255), (16, 0), (255, 255)):
+        yield sdo_id(major, minor)
     yield from drawn_questions()
 
 

@@ -112,7 +112,6 @@ scaled x f (pos n) = subst (Scaled x f) (sym (pos-sub n)) (scaled-difference x f
 scaled x f (negsuc n) = subst (Scaled x f) (sym (negsuc-sub n)) (scaled-difference x f 0 (suc n))
 
 module _ (asked : ℕ) (t : Time) (w : WireTimestamp) (c : ℕ) (e : answerStamp asked t ≡ S.Value w c) where
-
   parts : Parts asked (wireOf (time t)) w c
   unfolding answerStamp
   parts = less-from asked (wireOf (time t)) w c e
@@ -132,8 +131,8 @@ module _ (asked : ℕ) (t : Time) (w : WireTimestamp) (c : ℕ) (e : answerStamp
   unfolding wire correction
   answer-means =
       let x : ℕ = (w .seconds * 10 ^ 9 + w .nanos) * 2 ^ 32 in
-      let lowHalf : signed 64 (parts .f) ≡ pos (parts .f) = signed-low 64 (parts .f) (lt-trans (answer-sent .fraction) (lit< tt)) in
-      let whole : pos (x + parts .f * 65536) ≡ pos (cutTo16 (unitsOf t)) = ap (λ (z : ℤ). pos x +ℤ z *ℤ pos 65536) (sym lowHalf) ∙ answer-sent .cut in
+      let small : signed 64 (parts .f) ≡ pos (parts .f) = signed-low 64 (parts .f) (lt-trans (answer-sent .fraction) (lit< tt)) in
+      let whole : pos (x + parts .f * 65536) ≡ pos (cutTo16 (unitsOf t)) = ap (λ (z : ℤ). pos x +ℤ z *ℤ pos 65536) (sym small) ∙ answer-sent .cut in
       ap (λ (z : ℤ). pos x -ℤ z *ℤ pos 65536) (answer-correction .value)
       ∙ scaled x (parts .f) (signed 64 asked)
       ∙ ap (λ (z : ℤ). z -ℤ correction asked) whole

@@ -10,7 +10,7 @@ use lib.Dec.{lit<}
 use lib.ListN.{length}
 use Rattle.time.specs.declared.Time.{Time}
 use Rattle.time.specs.declared.WireTimestamp.{WireTimestamp}
-use Rattle.time.specs.Units.{timeWords, wire}
+use Rattle.time.specs.Units.{timeWords, wire, timeOfWire}
 use Rattle.wire.specs.declared.Identity.{Identity}
 use Rattle.wire.specs.declared.Header.{Header}
 use Rattle.wire.specs.declared.MessageType.{MessageType}
@@ -18,12 +18,12 @@ use Rattle.wire.specs.declared.MessageType.the-variants as M
 use Rattle.wire.specs.declared.Body.{Body}
 use Rattle.wire.specs.declared.Body.the-variants as B
 use Rattle.wire.specs.declared.Reading.the-variants as G
-use Rattle.wire.specs.Layout.{row, body, typeOf, timestampOf, restIn, restEntries, headerEntries, identityEntries, timestampEntries, bodyEntries, messageEntries, messageBytes, twoStepFlag}
+use Rattle.wire.specs.Layout.{row, body, typeOf, timestampOf, restIn, restEntries, headerEntries, identityEntries, timestampEntries, bodyEntries, messageEntries, messageBytes, twoStepFlag, sdoId}
 use Rattle.wire.specs.Reading.{readOf}
 use Rattle.wire.specs.BytesLaws.{apart, Fits}
-use Rattle.wire.specs.LayoutLaws.{length-message, row-small}
+use Rattle.wire.specs.LayoutLaws.{length-message, row-small, InWidths}
 use Rattle.writing.specs.declared.Written.the-variants as W
-use Rattle.writing.specs.Writing.{fitsOf, writeOf}
+use Rattle.writing.specs.Writing.{fitsOf, writeOf, isTime}
 use Rattle.writing.specs.WritingLaws.{fits-is, fits-when, write-when}
 use Rattle.writing.specs.RoundTrips.{message-back}
 use Rattle.sent.specs.declared.Sender.{Sender}
@@ -33,12 +33,9 @@ use Rattle.sent.specs.declared.Carried.{Carried}
 use Rattle.sent.specs.declared.Carried.the-variants as S
 use Rattle.sent.specs.Messages.{headerFor, noFlag, noInterval, zeroTimestamp, answerStamp, followStamp, carrying, syncOf, delayReqOf, followUpOf, pDelayReqOf, pDelayRespOf, delayRespOf, pDelayRespFollowUpOf}
 use Rattle.sent.specs.CarriedLaws.{HasRoom, follow-room, answer-room}
+use Rattle.time.specs.WireLaws.{read-in}
 
 -- ---- limits
-
-pub record InWidths (i : Identity) : Type 0 where
-  pub clock : i .clock < 2 ^ 64
-  pub port : i .port < 2 ^ 16
 
 pub record InLimits (s : Sender) : Type 0 where
   pub sdo : s .sdo < 4096
@@ -63,18 +60,24 @@ length-small M.FollowUp = lit< tt
 length-small M.DelayResp = lit< tt
 length-small M.PDelayRespFollowUp = lit< tt
 
+-- and both together are the sdo id that the header gives back
+pub sdo-sent : (s : Sender) (t : MessageType) (flags correction id interval : ℕ) → sdoId (headerFor s t flags correction id interval) ≡ s .sdo
+unfolding sdoId headerFor
+sdo-sent s t flags correction id interval = omega arith
+
 -- a header of ours has room for any body of its type whose numbers have room
-pub header-fits : (s : Sender) (t : MessageType) (b : Body) (flags correction id interval : ℕ) → InLimits s → typeOf b ≡ t → Fits (bodyEntries body b) → flags < 2 ^ 16 → correction < 2 ^ 64 → id < 2 ^ 16 → interval < 256 → fitsOf (headerFor s t flags correction id interval) b ≡ true
+pub header-fits : (s : Sender) (t : MessageType) (b : Body) (flags correction id interval : ℕ) → InLimits s → typeOf b ≡ t → Fits (bodyEntries body b) → isTime (timeOfWire (timestampOf b)) ≡ true → flags < 2 ^ 16 → correction < 2 ^ 64 → id < 2 ^ 16 → interval < 256 → fitsOf (headerFor s t flags correction id interval) b ≡ true
 unfolding headerFor messageEntries headerEntries identityEntries
-header-fits s t b flags correction id interval l same f g c i v =
-    let (highHalf, lowHalf) = sdo-halves (s .sdo) (l .sdo) in
+header-fits s t b flags correction id interval l same f time g c i v =
+    let (major, minorSdo) = sdo-halves (s .sdo) (l .sdo) in
     fits-when (headerFor s t flags correction id interval) b record {
       version = refl;
       number-is = ap (λ (x : MessageType). row x .number) (sym same);
       length-is = ap (λ (x : MessageType). row x .length) (sym same);
-      major = highHalf;
+      major = major;
       minor = l .minor;
-      each = (halves-small (s .sdo / 256) (row t .number) highHalf (row-small t .0), (halves-small (s .minor) 2 (l .minor) (lit< tt), (length-small t, (l .domain, (lowHalf, (g, (c, (lit< tt, (l .identity .clock, (l .identity .port, (i, (row-small (typeOf b) .1, (v, f)))))))))))));
+      each = (halves-small (s .sdo / 256) (row t .number) major (row-small t .0), (halves-small (s .minor) 2 (l .minor) (lit< tt), (length-small t, (l .domain, (minorSdo, (g, (c, (lit< tt, (l .identity .clock, (l .identity .port, (i, (row-small (typeOf b) .1, (v, f)))))))))))));
+      timed = time;
     }
 
 -- ---- what is made can be sent
@@ -116,7 +119,7 @@ module _ (s : Sender) (l : InLimits s) where
   unfolding bodyEntries timestampEntries
   sends b flags correction id interval n rest f i v =
       let h : Header = headerFor s (typeOf b) flags correction id interval in
-      let fit : fitsOf h b ≡ true = header-fits s (typeOf b) b flags correction id interval l refl (n .seconds, (lt-trans (n .nanos) (lit< tt), rest)) f (n .correction) i v in
+      let fit : fitsOf h b ≡ true = header-fits s (typeOf b) b flags correction id interval l refl (n .seconds, (lt-trans (n .nanos) (lit< tt), rest)) (ap isTime (read-in (timestampOf b) (n .seconds))) f (n .correction) i v in
       record {
         fits = fit;
         length-is = length-message h b;

@@ -1,5 +1,5 @@
 -- Numbers in a list of bytes, big-endian: what is read at a place, what is written there, and tables of places with their values.
-use Prim.Native.Nat.{ℕ, zero, suc, _+_, _*_, _/_, _%_, _^_}
+use Prim.Native.Nat.{ℕ, zero, suc, _+_, _*_, _/_, _%_, _^_, _<_}
 use mathlib.Core.Bool.{Bool, true, _&&_}
 use mathlib.Core.List.{List, [], _∷_, _++_}
 use lib.ListN.{getD}
@@ -66,3 +66,7 @@ tiles n (e ∷ es) = eqb (e .place .at) n && tiles (n + e .place .width) es
 unfoldable pub puts : List Entry → List ℕ → List ℕ
 puts [] l = l
 puts (e ∷ es) l = puts es (put (e .place .at) (e .place .width) (e .value) l)
+
+-- every number of l is a byte
+abbrev pub Bytes : List ℕ → Type 0
+Bytes l = (i : ℕ) → getD l i 0 < 256

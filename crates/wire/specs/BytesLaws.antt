@@ -10,7 +10,7 @@ use lib.ListN.{length, getD, set, take, drop, length-append, length-drop, List·
 use lib.Seq.{sets, sets-eq, set-comm, getD-append-add, getD-at, getD-drop, take-suc}
 use lib.Dec.{eqb, ltb}
 use borrow.Author.Tests.{eqb-true, ltb-true, lt-ltb}
-use Rattle.wire.specs.Bytes.{Entry, number, spell, put, puts, bytesOf, tiles, sizeOf, roomy, fieldAt}
+use Rattle.wire.specs.Bytes.{Entry, number, spell, put, puts, bytesOf, tiles, sizeOf, roomy, fieldAt, Bytes}
 
 below : (v b : ℕ) → v < b * 256 → v / 256 < b
 below v b h = omega arith
@@ -141,17 +141,13 @@ number-same at (suc w) l m e =
     let f : (i : ℕ) → at ≤ i → i < at + w → getD l i 0 ≡ getD m i 0 = λ i a b. e i a (omega arith) in
     rw (number-same at w l m f, e (at + w) (omega arith) (omega arith)) refl
 
--- each element of l is a byte
-abbrev pub Bytes : List ℕ → Type 0
-Bytes l = (i : ℕ) → getD l i 0 < 256
-
 pub number-lt : (at w : ℕ) (l : List ℕ) → Bytes l → number at w l < 256 ^ w
 unfolding number
 number-lt at zero l b = omega arith
 number-lt at (suc w) l b = omega (arith, pow-suc 256 w, number-lt at w l b, b (at + w))
 
 -- the bytes of what is read are the bytes that were read
-pub spell-number : (at w : ℕ) (l : List ℕ) → ((i : ℕ) → getD l i 0 < 256) → at + w ≤ length l → spell w (number at w l) ≡ take w (drop at l)
+pub spell-number : (at w : ℕ) (l : List ℕ) → Bytes l → at + w ≤ length l → spell w (number at w l) ≡ take w (drop at l)
 unfolding spell number
 spell-number at zero l b h = refl
 spell-number at (suc w) l b h =

@@ -79,6 +79,10 @@ lowHalf b = b % 16
 abbrev pub halves : ℕ → ℕ → ℕ
 halves h l = h * 16 + l
 
+-- the sdo id: its high four bits stand in byte 0, its low eight in byte 5
+unfoldable pub sdoId : Header → ℕ
+sdoId h = h .«major_sdo» * 256 + h .«minor_sdo»
+
 -- two-step is 0x02 in byte 6, the higher byte of the flags
 abbrev pub twoStepFlag : ℕ
 twoStepFlag = 0x02 * 256

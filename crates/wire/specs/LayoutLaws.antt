@@ -1,5 +1,5 @@
 -- Laws of the layout: each table fills its part of a message without gap or overlap, and each message has the length of its row.
-use Prim.Native.Nat.{ℕ, _+_, _≤_, _<_}
+use Prim.Native.Nat.{ℕ, _+_, _/_, _^_, _≤_, _<_}
 use mathlib.Core.Path.{_≡_, refl, sym, _∙_, ap}
 use mathlib.Core.Bool.{Bool, true, false, cond}
 use mathlib.Core.List.{List, [], _∷_, _++_}
@@ -7,6 +7,7 @@ use native.Mathlib.Omega.{arith}
 use lib.ListN.{length, take, drop, length-append}
 use lib.Dec.{eqb}
 use borrow.Author.Tests.{eq-eqb, eqb-true}
+use Rattle.wire.specs.declared.Identity.{Identity}
 use Rattle.wire.specs.declared.Header.{Header}
 use Rattle.wire.specs.declared.MessageType.{MessageType}
 use Rattle.wire.specs.declared.MessageType.the-variants as M
@@ -16,9 +17,9 @@ use Rattle.wire.specs.declared.Body.{Body}
 use Rattle.wire.specs.declared.Body.the-variants as B
 use Rattle.wire.specs.declared.Rest.{Rest}
 use Rattle.wire.specs.declared.Rest.the-variants as Q
-use Rattle.wire.specs.Bytes.{puts, bytesOf, sizeOf, tiles}
-use Rattle.wire.specs.Layout.{headerEntries, timestampEntries, identityEntries, restEntries, restIn, bodyEntries, row, named, kindOf, typeOf, bodyOf, timestampOf, timestampAt, body, messageEntries, messageBytes}
-use Rattle.wire.specs.BytesLaws.{apart, written, puts-append, length-bytesOf, bytesOf-append}
+use Rattle.wire.specs.Bytes.{puts, bytesOf, sizeOf, tiles, Bytes, number}
+use Rattle.wire.specs.Layout.{headerEntries, timestampEntries, identityEntries, restEntries, restIn, bodyEntries, row, named, kindOf, typeOf, bodyOf, timestampOf, timestampAt, body, messageEntries, messageBytes, headerOf, identityAt}
+use Rattle.wire.specs.BytesLaws.{apart, written, puts-append, length-bytesOf, bytesOf-append, number-lt}
 
 -- ---- the header
 
@@ -167,3 +168,42 @@ timestamp-body M.PDelayResp l = refl
 timestamp-body M.FollowUp l = refl
 timestamp-body M.DelayResp l = refl
 timestamp-body M.PDelayRespFollowUp l = refl
+
+-- ---- what is read of bytes has the widths of its places
+
+pub record InWidths (i : Identity) : Type 0 where
+  pub clock : i .clock < 2 ^ 64
+  pub port : i .port < 2 ^ 16
+
+pub identity-widths : (at : ℕ) (l : List ℕ) → Bytes l → InWidths (identityAt at l)
+unfolding identityAt
+identity-widths at l b = record { clock = number-lt at 8 l b; port = number-lt (at + 8) 2 l b }
+
+pub record HeaderWidths (h : Header) : Type 0 where
+  pub major : h .«major_sdo» < 16
+  pub minor : h .minor < 16
+  pub domain : h .domain < 256
+  pub minor-sdo : h .«minor_sdo» < 256
+  pub flags : h .flags < 2 ^ 16
+  pub correction : h .correction < 2 ^ 64
+  pub source : InWidths (h .source)
+  pub id : h .id < 2 ^ 16
+  pub interval : h .interval < 256
+
+half-width : (x : ℕ) → x < 256 → x / 16 < 16
+half-width x h = omega arith
+
+pub header-widths : (l : List ℕ) → Bytes l → HeaderWidths (headerOf l)
+unfolding headerOf
+header-widths l b =
+    record {
+      major = half-width (number 0 1 l) (number-lt 0 1 l b);
+      minor = half-width (number 1 1 l) (number-lt 1 1 l b);
+      domain = number-lt 4 1 l b;
+      minor-sdo = number-lt 5 1 l b;
+      flags = number-lt 6 2 l b;
+      correction = number-lt 8 8 l b;
+      source = identity-widths 20 l b;
+      id = number-lt 30 2 l b;
+      interval = number-lt 33 1 l b;
+    }

@@ -1,5 +1,5 @@
 -- Document 01, 'Numbers the port answers': rows 4 and 5 in its words, and what stands in the bytes where neither refuses them.
-use Prim.Native.Nat.{ℕ}
+use Prim.Native.Nat.{ℕ, max}
 use mathlib.Core.Bool.{Bool, true, false, cond, _||_, not}
 use mathlib.Core.List.{List}
 use lib.ListN.{length}
@@ -21,6 +21,10 @@ use Rattle.wire.specs.Layout.{row, kindOf, headerOf, bodyOf, timestampAt
 unfoldable pub row4 : List ℕ → Bool
 row4 l = ltb (length l) 2 || not (eqb (lowHalf (fieldAt minorVersionPTP·versionPTP l)) 2)
 
+-- what the type number of l stands for
+abbrev pub kindIn : List ℕ → Kind
+kindIn l = kindOf (lowHalf (fieldAt majorSdoId·messageType l))
+
 -- the last two conditions of row 5: a type that is none, and a stated length short of the table's
 abbrev pub reserved : Kind → Bool
 reserved (K.Table t) = false
@@ -36,8 +40,7 @@ shortFor K.Reserved stated = false
 unfoldable pub row5 : List ℕ → Bool
 row5 l =
     let stated : ℕ = fieldAt messageLength l in
-    let kind : Kind = kindOf (lowHalf (fieldAt majorSdoId·messageType l)) in
-    ltb (length l) 34 || (ltb stated 34 || ltb (length l) stated) || reserved kind || shortFor kind stated
+    ltb (length l) 34 || (ltb stated 34 || ltb (length l) stated) || reserved (kindIn l) || shortFor (kindIn l) stated
 
 -- every timestamp of a message is read as a time here, used or not; what is no time makes the message malformed. (`ReadingLaws`, `timestamp-read`: today each is a time.)
 abbrev pub timed : ReadAnswer → Header → Body → Reading
@@ -53,4 +56,8 @@ decoded K.Host l = G.Host (headerOf l)
 decoded K.Reserved l = G.Malformed
 
 unfoldable pub readOf : List ℕ → Reading
-readOf l = cond (row4 l) G.Version (cond (row5 l) G.Malformed (decoded (kindOf (lowHalf (fieldAt majorSdoId·messageType l))) l))
+readOf l = cond (row4 l) G.Version (cond (row5 l) G.Malformed (decoded (kindIn l) l))
+
+-- how far a message reaches: to its stated length, and never less than a header
+abbrev pub statedEnd : List ℕ → ℕ
+statedEnd l = max 34 (fieldAt messageLength l)

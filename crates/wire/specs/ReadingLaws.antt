@@ -18,16 +18,12 @@ use Rattle.wire.specs.declared.Header.{Header}
 use Rattle.wire.specs.declared.Body.{Body}
 use Rattle.wire.specs.declared.Reading.{Reading}
 use Rattle.wire.specs.declared.Reading.the-variants as G
-use Rattle.wire.specs.Bytes.{fieldAt}
-use Rattle.wire.specs.Layout.{row, kindOf, headerOf, bodyOf, typeOf, timestampOf, timestampAt, body, lowHalf, minorVersionPTP·versionPTP, majorSdoId·messageType, messageLength}
-use Rattle.wire.specs.Reading.{row4, row5, reserved, shortFor, timed, messageOf, decoded, readOf}
-use Rattle.wire.specs.Numbers.{numberOf}
-use Rattle.wire.specs.BytesLaws.{neither, apart, Bytes, number-lt}
+use Rattle.wire.specs.Bytes.{fieldAt, Bytes}
+use Rattle.wire.specs.Layout.{row, headerOf, bodyOf, typeOf, timestampOf, timestampAt, body, lowHalf, minorVersionPTP·versionPTP, majorSdoId·messageType, messageLength}
+use Rattle.wire.specs.Reading.{row4, row5, reserved, shortFor, timed, messageOf, decoded, readOf, kindIn}
+use Rattle.wire.specs.Numbers.{numberOf, kindNumber}
+use Rattle.wire.specs.BytesLaws.{neither, apart, number-lt}
 use Rattle.wire.specs.LayoutLaws.{kind-number, type-body, timestamp-body}
-
--- what the type number of l stands for
-abbrev pub kindIn : List ℕ → Kind
-kindIn l = kindOf (lowHalf (fieldAt majorSdoId·messageType l))
 
 -- each timestamp of bytes is a time, so row 5 is all that makes bytes malformed (`malformed-is`)
 pub timestamp-read : (at : ℕ) (l : List ℕ) → Bytes l → timeOfWire (timestampAt at l) ≡ R.Value (timeWords (wire (timestampAt at l)))
@@ -238,25 +234,20 @@ message-is l h b t e = go (came (row4 l) (row5 l) (decoded (kindIn l) l) (G.Mess
 
 -- ---- the number that is answered, for any bytes
 
-abbrev pub hosts : Kind → Bool
-hosts (K.Table t) = false
-hosts K.Host = true
-hosts K.Reserved = false
-
 -- a type that row 5 lets through is one
 not-reserved : (k : Kind) → k ≡ K.Reserved → reserved k ≡ false → ⊥
 not-reserved k e r = false≢true (sym r ∙ ap reserved e)
 
 module _ (l : List ℕ) (b : Bytes l) where
-  past : row4 l ≡ false → row5 l ≡ false → (k : Kind) → kindIn l ≡ k → numberOf (readOf l) ≡ cond (hosts k) 8 0
+  past : row4 l ≡ false → row5 l ≡ false → (k : Kind) → kindIn l ≡ k → numberOf (readOf l) ≡ kindNumber k
   past p q (K.Table m) e = ap numberOf (message-of-bytes l m b p q e)
   past p q K.Host e = ap numberOf (host-when l p q e)
   past p q K.Reserved e = absurd (not-reserved (kindIn l) e (past-row5 l q .a-type))
 
-  told : (v m : Bool) → row4 l ≡ v → row5 l ≡ m → numberOf (readOf l) ≡ cond v 4 (cond m 5 (cond (hosts (kindIn l)) 8 0))
+  told : (v m : Bool) → row4 l ≡ v → row5 l ≡ m → numberOf (readOf l) ≡ cond v 4 (cond m 5 (kindNumber (kindIn l)))
   told true m p q = ap numberOf (version-when l p)
   told false true p q = ap numberOf (malformed-when l p q)
   told false false p q = past p q (kindIn l) refl
 
-  pub number-is : numberOf (readOf l) ≡ cond (row4 l) 4 (cond (row5 l) 5 (cond (hosts (kindIn l)) 8 0))
+  pub number-is : numberOf (readOf l) ≡ cond (row4 l) 4 (cond (row5 l) 5 (kindNumber (kindIn l)))
   number-is = told (row4 l) (row5 l) refl refl

@@ -1,5 +1,5 @@
 -- Which bytes do not matter: those that `Layout` calls unread, and all behind the stated length.
-use Prim.Native.Nat.{ℕ, _+_, _≤_, _<_, max}
+use Prim.Native.Nat.{ℕ, _+_, _≤_, _<_}
 use mathlib.Core.Path.{_≡_, refl, sym, _∙_, ap}
 use mathlib.Core.Bool.{Bool, true, false, cond, _&&_, false≢true}
 use mathlib.Core.List.{List, [], _∷_, _++_}
@@ -16,10 +16,10 @@ use Rattle.wire.specs.declared.Body.the-variants as B
 use Rattle.wire.specs.declared.Reading.the-variants as G
 use Rattle.wire.specs.Bytes.{Place, fieldAt, number}
 use Rattle.wire.specs.Layout.{row, headerOf, bodyOf, timestampAt, identityAt, body, lowHalf, kindOf, readTo, unread, lies, unreadAt, reservedIn, messageLength}
-use Rattle.wire.specs.Reading.{row4, row5, timed, messageOf, decoded, readOf, shortFor}
+use Rattle.wire.specs.Reading.{row4, row5, timed, messageOf, decoded, readOf, shortFor, kindIn, statedEnd}
 use Rattle.wire.specs.BytesLaws.{neither, number-same, number-inside}
 use Rattle.wire.specs.LayoutLaws.{stamp-room}
-use Rattle.wire.specs.ReadingLaws.{kindIn, past-row5}
+use Rattle.wire.specs.ReadingLaws.{past-row5}
 
 -- byte i lies in none of the places, as facts
 abbrev pub Outside : List Place → ℕ → Type 0
@@ -108,9 +108,9 @@ header-read k l m e =
     header-same l m (λ i h a b. e i (read-at-when k i (omega (arith, to-header k)) (a, (b, reserved-behind k i (omega arith)))))
 
 module _ (t : MessageType) (l m : List ℕ) (e : Agree (K.Table t) l m) where
-  timestamp-read : timestampAt body l ≡ timestampAt body m
+  stamp-read : timestampAt body l ≡ timestampAt body m
   unfolding unread
-  timestamp-read =
+  stamp-read =
       timestamp-same body l m (λ i a b. e i (read-at-when (K.Table t) i (omega (arith, stamp-room t)) (λ c d. omega arith, (λ c d. omega arith, reserved-behind (K.Table t) i (omega arith)))))
 
   requester-read : row t .length ≡ 54 → ((i : ℕ) → Outside (reservedIn (K.Table t)) i) → identityAt (body + 10) l ≡ identityAt (body + 10) m
@@ -120,17 +120,17 @@ module _ (t : MessageType) (l m : List ℕ) (e : Agree (K.Table t) l m) where
 
 body-read : (t : MessageType) (l m : List ℕ) → Agree (K.Table t) l m → bodyOf t l ≡ bodyOf t m
 unfolding bodyOf
-body-read M.Sync l m e = ap B.Sync (timestamp-read M.Sync l m e)
-body-read M.DelayReq l m e = ap B.DelayReq (timestamp-read M.DelayReq l m e)
-body-read M.PDelayReq l m e = ap B.PDelayReq (timestamp-read M.PDelayReq l m e)
-body-read M.PDelayResp l m e = λ j. B.PDelayResp (timestamp-read M.PDelayResp l m e j) (requester-read M.PDelayResp l m e refl (λ i. tt) j)
-body-read M.FollowUp l m e = ap B.FollowUp (timestamp-read M.FollowUp l m e)
-body-read M.DelayResp l m e = λ j. B.DelayResp (timestamp-read M.DelayResp l m e j) (requester-read M.DelayResp l m e refl (λ i. tt) j)
-body-read M.PDelayRespFollowUp l m e = λ j. B.PDelayRespFollowUp (timestamp-read M.PDelayRespFollowUp l m e j) (requester-read M.PDelayRespFollowUp l m e refl (λ i. tt) j)
+body-read M.Sync l m e = ap B.Sync (stamp-read M.Sync l m e)
+body-read M.DelayReq l m e = ap B.DelayReq (stamp-read M.DelayReq l m e)
+body-read M.PDelayReq l m e = ap B.PDelayReq (stamp-read M.PDelayReq l m e)
+body-read M.PDelayResp l m e = λ j. B.PDelayResp (stamp-read M.PDelayResp l m e j) (requester-read M.PDelayResp l m e refl (λ i. tt) j)
+body-read M.FollowUp l m e = ap B.FollowUp (stamp-read M.FollowUp l m e)
+body-read M.DelayResp l m e = λ j. B.DelayResp (stamp-read M.DelayResp l m e j) (requester-read M.DelayResp l m e refl (λ i. tt) j)
+body-read M.PDelayRespFollowUp l m e = λ j. B.PDelayRespFollowUp (stamp-read M.PDelayRespFollowUp l m e j) (requester-read M.PDelayRespFollowUp l m e refl (λ i. tt) j)
 
 decoded-same : (k : Kind) (l m : List ℕ) → Agree k l m → decoded k l ≡ decoded k m
 unfolding messageOf
-decoded-same (K.Table t) l m e = λ j. timed (timeOfWire (timestamp-read t l m e j)) (header-read (K.Table t) l m e j) (body-read t l m e j)
+decoded-same (K.Table t) l m e = λ j. timed (timeOfWire (stamp-read t l m e j)) (header-read (K.Table t) l m e j) (body-read t l m e j)
 decoded-same K.Host l m e = ap G.Host (header-read K.Host l m e)
 decoded-same K.Reserved l m e = refl
 
@@ -174,10 +174,6 @@ pub unread-same : (l m : List ℕ) → length l ≡ length m → ((i : ℕ) → 
 unread-same l m n e =
     let alike : (x : ℕ) → ltb (length l) x ≡ ltb (length m) x = λ x. ap (λ (k : ℕ). ltb k x) n in
     same l m (alike 2, alike 34, alike (fieldAt messageLength l)) (λ i h. e i (first-read (kindIn l) i h)) (λ r. e)
-
--- how far a message reaches: to its stated length, and never less than a header
-abbrev pub statedEnd : List ℕ → ℕ
-statedEnd l = max 34 (fieldAt messageLength l)
 
 read-there : (k : Kind) (stated : ℕ) → 34 ≤ stated → shortFor k stated ≡ false → readTo k ≤ stated
 read-there (K.Table t) stated h e = ltb-false stated (row t .length) e

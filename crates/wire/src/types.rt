@@ -1,6 +1,6 @@
 // Document 01's table: each message's type number, control byte and length, and what its body has.
 ghost use mathlib.Core.Path.{_≡_};
-ghost use Rattle.wire.specs.Layout.{Row, row, twoStep, kindOf, typeOf, timestampOf, restIn};
+ghost use Rattle.wire.specs.Layout.{Row, row, sdoId, twoStep, kindOf, typeOf, timestampOf, restIn};
 use crate::Body;
 use crate::Header;
 use crate::Kind;
@@ -30,6 +30,15 @@ impl Kind {
 }
 
 impl Header {
+    // The sdo id that the two fields make up.
+    pub fn sdo_id(self) -> u16
+        ensures { λ r. ⌜ r ≡ sdoId self ⌝ }
+    {
+        let high = self.major_sdo as u16;
+        let low = self.minor_sdo as u16;
+        high * 256 + low
+    }
+
     // Whether the time of this message follows in another.
     pub fn is_two_step(self) -> bool
         ensures { λ r. ⌜ r ≡ twoStep self ⌝ }

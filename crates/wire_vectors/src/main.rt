@@ -88,6 +88,7 @@ fn ask(letter: u8, line: &[u8; 262]) {
         b'r' => ask_read(line),
         b'w' => ask_write(line),
         b's' => ask_sent(line),
+        b'd' => tell::number(input::header(line).sdo_id() as u64),
         b'f' => tell::number(input::header(line).is_two_step() as u64),
         b'k' => tell::kind(Kind::of(input::byte(line, 2))),
         b'l' => tell::correction(sent::less_fraction(input::word(line, 2), input::pair(line, 19))),

@@ -1,33 +1,29 @@
 -- A message laid into a buffer: the header at its front, and then the body into the part behind it, which was lent.
 use Prim.Native.Nat.{ℕ, _+_, _-_, _≤_}
 use mathlib.Core.Path.{_≡_, sym, _∙_, ap}
-use mathlib.Core.List.{List, _++_, append-assoc, append-nil}
+use mathlib.Core.List.{List, _++_, append-assoc}
 use native.Mathlib.Omega.{arith}
-use lib.ListN.{length, take, drop, length-drop, drop-of-length-le}
-use lib.Seq.{take-all, take-at, drop-at, drop-drop}
+use lib.ListN.{length, take, drop, length-drop}
+use lib.Seq.{take-at, drop-at, drop-drop}
 use borrow.Rule.Slice.PartMut.{putMid, midOf}
 use Rattle.wire.specs.declared.Header.{Header}
 use Rattle.wire.specs.declared.Body.{Body}
 use Rattle.wire.specs.Bytes.{bytesOf, puts, sizeOf}
 use Rattle.wire.specs.Layout.{row, typeOf, headerEntries, bodyEntries, messageBytes}
 use Rattle.wire.specs.LayoutLaws.{length-header, body-size, body-written, head-then-body}
+use Rattle.writing.specs.LentLaws.{lent-part, put-part}
 
 -- xs is a head hd of n bytes and what lay behind them in l; the part lent is what lay there
 module _ (n : ℕ) (hd xs l : List ℕ) (e : length hd ≡ n) (x : xs ≡ hd ++ drop n l) where
   lent : midOf n (length xs - n) xs ≡ drop n l
-  lent =
-      let s : length (drop n xs) ≤ length xs - n = simp length-drop (omega arith) in
-      take-all (length xs - n) (drop n xs) s ∙ ap (drop n) x ∙ drop-at hd (drop n l) n e
+  lent = lent-part n xs ∙ ap (drop n) x ∙ drop-at hd (drop n l) n e
 
   pub lent-length : length (midOf n (length xs - n) xs) ≡ length l - n
   lent-length = ap length lent ∙ length-drop n l
 
   head-and-rest : (ys : List ℕ) → putMid n (length xs - n) xs ys ≡ hd ++ ys
   head-and-rest ys =
-      let t : length (drop n xs) ≤ length xs - n = simp length-drop (omega arith) in
-      ap (λ (z : List ℕ). take n xs ++ (ys ++ z)) (drop-of-length-le (drop n xs) t)
-      ∙ ap (λ (z : List ℕ). take n xs ++ z) (append-nil ys)
-      ∙ ap (λ (z : List ℕ). z ++ ys) (ap (take n) x ∙ take-at hd (drop n l) n e)
+      put-part n xs ys ∙ ap (λ (z : List ℕ). z ++ ys) (ap (take n) x ∙ take-at hd (drop n l) n e)
 
 module _ (h : Header) (b : Body) (xs ys l : List ℕ) where
   abbrev hd : List ℕ

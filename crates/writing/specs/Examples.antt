@@ -47,14 +47,14 @@ says type stated =
     }
 
 abbrev stampBytes : List ℕ
-stampBytes = 0x41 ∷ 0x42 ∷ 0x43 ∷ 0x44 ∷ 0x45 ∷ 0x46 ∷ 0x47 ∷ 0x48 ∷ 0x49 ∷ 0x4A ∷ []
+stampBytes = 0x41 ∷ 0x42 ∷ 0x43 ∷ 0x44 ∷ 0x45 ∷ 0x46 ∷ 0x17 ∷ 0x48 ∷ 0x49 ∷ 0x4A ∷ []
 
 abbrev stamp : WireTimestamp
-stamp = record { seconds = 0x414243444546; nanos = 0x4748494A }
+stamp = record { seconds = 0x414243444546; nanos = 0x1748494A }
 
--- the stamp's time: (71752852194630 * 10 ^ 9 + 1195919690) * 2 ^ 32 units
+-- the stamp's time: (71752852194630 * 10 ^ 9 + 390613322) * 2 ^ 32 units
 abbrev stampTime : Time
-stampTime = record { hi = 0xF31BADB7C1C; lo = 0xF40D854A00000000 }
+stampTime = record { hi = 0xF31BADB7C1C; lo = 0xC40D854A00000000 }
 
 abbrev requesterBytes : List ℕ
 requesterBytes = 0x51 ∷ 0x52 ∷ 0x53 ∷ 0x54 ∷ 0x55 ∷ 0x56 ∷ 0x57 ∷ 0x58 ∷ 0x59 ∷ 0x5A ∷ []
@@ -167,11 +167,11 @@ follow-up-43 = refl
 -- ---- writing: the room, and a type that is not the body's
 
 room-43 : writeOf (says 8 44) (B.FollowUp stamp) 43 ≡ W.Short
-unfolding writeOf fitsOf together roomy messageEntries headerEntries identityEntries timestampEntries bodyEntries
+unfolding writeOf fitsOf together roomy messageEntries headerEntries identityEntries timestampEntries bodyEntries timeOfWire wire
 room-43 = refl
 
 room-44 : writeOf (says 8 44) (B.FollowUp stamp) 44 ≡ W.Length 44
-unfolding writeOf fitsOf together roomy messageEntries headerEntries identityEntries timestampEntries bodyEntries
+unfolding writeOf fitsOf together roomy messageEntries headerEntries identityEntries timestampEntries bodyEntries timeOfWire wire
 room-44 = refl
 
 other-type : writeOf (says 0 44) (B.FollowUp stamp) 44 ≡ W.Unfit

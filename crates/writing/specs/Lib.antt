@@ -2,5 +2,6 @@
 pub mod Writing
 pub mod Numbers
 pub mod WritingLaws
+pub mod LentLaws
 pub mod RoundTrips
 pub mod Examples

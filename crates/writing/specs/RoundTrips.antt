@@ -13,7 +13,6 @@ use borrow.Author.Tests.{le-ltb, eqb-true}
 use Rattle.time.specs.declared.Time.{Time}
 use Rattle.time.specs.declared.ReadAnswer.the-variants as R
 use Rattle.time.specs.Units.{timeOfWire, timeWords, wire}
-use Rattle.time.specs.WireLaws.{read-in}
 use Rattle.wire.specs.declared.MessageType.{MessageType}
 use Rattle.wire.specs.declared.MessageType.the-variants as M
 use Rattle.wire.specs.declared.Kind.{Kind}
@@ -24,14 +23,14 @@ use Rattle.wire.specs.declared.Body.{Body}
 use Rattle.wire.specs.declared.Body.the-variants as B
 use Rattle.wire.specs.declared.Reading.the-variants as G
 use Rattle.writing.specs.declared.Written.the-variants as W
-use Rattle.wire.specs.Bytes.{Entry, number, spell, bytesOf, sizeOf, tiles, fieldAt}
+use Rattle.wire.specs.Bytes.{Entry, number, spell, bytesOf, sizeOf, tiles, fieldAt, Bytes}
 use Rattle.wire.specs.Layout.{headerEntries, headerOf, timestampEntries, timestampAt, identityEntries, identityAt, bodyEntries, bodyOf, body, row, kindOf, typeOf, timestampOf, messageLength, unread, unreadAt, messageEntries, messageBytes}
-use Rattle.wire.specs.Reading.{row4, row5, readOf, shortFor, reserved}
-use Rattle.writing.specs.Writing.{fitsOf, writeOf, leftOf}
-use Rattle.wire.specs.BytesLaws.{both, Bytes, Fits, Reads, fits-parts, reads-parts, reads-back, number-lt, length-bytesOf, length-spell, spell-number}
+use Rattle.wire.specs.Reading.{row4, row5, readOf, shortFor, reserved, kindIn}
+use Rattle.writing.specs.Writing.{fitsOf, writeOf, leftOf, isTime}
+use Rattle.wire.specs.BytesLaws.{both, Fits, Reads, reads-parts, reads-back, number-lt, length-bytesOf, length-spell, spell-number}
 use Rattle.wire.specs.LayoutLaws.{message-tiles, length-message, number-kind, row-small, body-size}
-use Rattle.wire.specs.ReadingLaws.{kindIn, row4-passed, row5-passed, IsMessage, message-when, message-is}
-use Rattle.writing.specs.WritingLaws.{Fitting, fits-is, fits-when, write-when, write-is, left-when}
+use Rattle.wire.specs.ReadingLaws.{row4-passed, row5-passed, IsMessage, message-when, message-is}
+use Rattle.writing.specs.WritingLaws.{Fitting, fits-is, fits-when, write-when, write-is, left-when, time-given}
 use Rattle.wire.specs.UnreadLaws.{read-at-is}
 
 -- ---- tables that stand in l read back
@@ -93,8 +92,7 @@ module _ (h : Header) (b : Body) (f : Fitting h b) (q : List ℕ) where
   there = omega (arith, length-append (messageBytes h b) q, length-message h b)
 
   has-time : timeOfWire (timestampOf b) ≡ R.Value (timeWords (wire (timestampOf b)))
-  unfolding messageEntries bodyEntries timestampEntries
-  has-time = read-in (timestampOf b) (fits-parts (headerEntries h control) (bodyEntries body b) (f .each) .1 .0)
+  has-time = time-given (timestampOf b) (f .timed)
 
   pub message-back : readOf whole ≡ G.Message h b (timeWords (wire (timestampOf b)))
   unfolding headerOf
@@ -251,6 +249,7 @@ read-writes l h b t bytes e n =
       major = omega (arith, major, number-lt 0 1 l bytes);
       minor = omega (arith, minor, number-lt 1 1 l bytes);
       each = origins-fit k l (messageEntries h b) bytes o;
+      timed = ap isTime (m .time);
     } in
     let there : 0 + sizeOf (messageEntries h b) ≤ length l = omega (arith, length-bytesOf (messageEntries h b), long, n, m .stated-there) in
     record {

@@ -1,7 +1,7 @@
 -- Laws of writing, for callers: what fits, and when a message is written.
-use Prim.Native.Nat.{ℕ, _≤_, _<_}
-use mathlib.Core.Path.{_≡_, refl, ap}
-use mathlib.Core.Bool.{Bool, true, false, cond, _&&_}
+use Prim.Native.Nat.{ℕ, _≤_, _<_, _^_}
+use mathlib.Core.Path.{_≡_, refl, ap, sym, _∙_}
+use mathlib.Core.Bool.{Bool, true, false, cond, _&&_, false≢true}
 use mathlib.Core.List.{List, [], _∷_, _++_}
 use lib.Dec.{ltb, eqb}
 use lib.IntN.{pos}
@@ -9,14 +9,20 @@ use lib.ListN.{length, drop}
 use borrow.Author.Tests.{ltb-true, ltb-false, lt-ltb, le-ltb, eqb-true, eq-eqb}
 use Rattle.wire.specs.declared.Header.{Header}
 use Rattle.wire.specs.declared.Body.{Body}
+use Rattle.time.specs.declared.ReadAnswer.the-variants as R
 use Rattle.time.specs.Numbers.{answered, refusal}
 use Rattle.writing.specs.declared.Written.{Written}
 use Rattle.writing.specs.declared.Written.the-variants as W
 use Rattle.wire.specs.Bytes.{roomy}
-use Rattle.wire.specs.Layout.{row, typeOf, messageEntries, messageBytes}
-use Rattle.writing.specs.Writing.{together, fitsOf, writeOf, leftBy, leftOf}
+use Rattle.wire.specs.Layout.{row, typeOf, messageEntries, messageBytes, timestampOf}
+use Rattle.writing.specs.Writing.{together, fitsOf, writeOf, leftBy, leftOf, isTime}
 use Rattle.writing.specs.Numbers.{told}
 use Rattle.wire.specs.BytesLaws.{both, apart, Fits, roomy-fits, fits-roomy}
+use native.Mathlib.Decide.{decLt}
+use Rattle.time.specs.Units.{timeOfWire, timeWords, wire}
+use Rattle.time.specs.WireLaws.{read-in, read-out}
+use Rattle.time.specs.Lemmas.Integers.{not-below}
+use Rattle.time.specs.declared.WireTimestamp.{WireTimestamp}
 
 -- `fitsOf` as facts
 pub record Fitting (h : Header) (b : Body) : Type 0 where
@@ -26,6 +32,7 @@ pub record Fitting (h : Header) (b : Body) : Type 0 where
   pub major : h .«major_sdo» < 16
   pub minor : h .minor < 16
   pub each : Fits (messageEntries h b)
+  pub timed : isTime (timeOfWire (timestampOf b)) ≡ true
 
 pub fits-is : (h : Header) (b : Body) → fitsOf h b ≡ true → Fitting h b
 unfolding fitsOf together
@@ -34,7 +41,8 @@ fits-is h b e =
     let k : Bool = eqb (h .kind) (row (typeOf b) .number) in
     let n : Bool = eqb (h .length) (row (typeOf b) .length) in
     let four : Bool = ltb (h .«major_sdo») 16 && ltb (h .minor) 16 in
-    let (p, r) = both (v && k && n && four) (roomy (messageEntries h b)) e in
+    let (u, time) = both (v && k && n && four && roomy (messageEntries h b)) (isTime (timeOfWire (timestampOf b))) e in
+    let (p, r) = both (v && k && n && four) (roomy (messageEntries h b)) u in
     let (q, s) = both (v && k && n) four p in
     let (x, y) = both (ltb (h .«major_sdo») 16) (ltb (h .minor) 16) s in
     let (z, c) = both (v && k) n q in
@@ -46,12 +54,21 @@ fits-is h b e =
       major = ltb-true (h .«major_sdo») 16 x;
       minor = ltb-true (h .minor) 16 y;
       each = roomy-fits (messageEntries h b) r;
+      timed = time;
     }
 
 pub fits-when : (h : Header) (b : Body) → Fitting h b → fitsOf h b ≡ true
 unfolding fitsOf together
 fits-when h b f =
-    simp (eq-eqb (h .version) 2 (f .version), eq-eqb (h .kind) (row (typeOf b) .number) (f .number-is), eq-eqb (h .length) (row (typeOf b) .length) (f .length-is), lt-ltb (h .«major_sdo») 16 (f .major), lt-ltb (h .minor) 16 (f .minor), fits-roomy (messageEntries h b) (f .each))
+    simp (eq-eqb (h .version) 2 (f .version), eq-eqb (h .kind) (row (typeOf b) .number) (f .number-is), eq-eqb (h .length) (row (typeOf b) .length) (f .length-is), lt-ltb (h .«major_sdo») 16 (f .major), lt-ltb (h .minor) 16 (f .minor), fits-roomy (messageEntries h b) (f .each), f .timed)
+
+-- a timestamp that reads as a time reads as the one that it means
+pub time-given : (w : WireTimestamp) → isTime (timeOfWire w) ≡ true → timeOfWire w ≡ R.Value (timeWords (wire w))
+time-given w e = go (decLt (w .seconds) (2 ^ 48))
+  where
+    go : Dec (w .seconds < 2 ^ 48) → timeOfWire w ≡ R.Value (timeWords (wire w))
+    go (yes h) = read-in w h
+    go (no h) = absurd (false≢true (sym (ap isTime (read-out w (not-below (w .seconds) (2 ^ 48) h))) ∙ e))
 
 -- written exactly where it fits and the room is enough
 pub write-when : (h : Header) (b : Body) (room : ℕ) → fitsOf h b ≡ true → row (typeOf b) .length ≤ room → writeOf h b room ≡ W.Length (row (typeOf b) .length)
@@ -75,11 +92,11 @@ unfolding leftOf
 left-when h b l n e = ap (λ (w : Written). leftBy w (messageBytes h b) l) e
 
 -- and in 01's terms, for all inputs
-told-picked : (fit short : Bool) (n : ℕ) → told (cond fit (cond short W.Short (W.Length n)) W.Unfit) ≡ cond fit (cond short (refusal 1) (answered (pos n ∷ []))) (refusal 2)
+told-picked : (fit short : Bool) (n : ℕ) → told (cond fit (cond short W.Short (W.Length n)) W.Unfit) ≡ cond fit (cond short (refusal 1) (answered (pos n ∷ []))) (refusal 7)
 told-picked true true n = refl
 told-picked true false n = refl
 told-picked false short n = refl
 
-pub told-write : (h : Header) (b : Body) (room : ℕ) → told (writeOf h b room) ≡ cond (fitsOf h b) (cond (ltb room (row (typeOf b) .length)) (refusal 1) (answered (pos (row (typeOf b) .length) ∷ []))) (refusal 2)
+pub told-write : (h : Header) (b : Body) (room : ℕ) → told (writeOf h b room) ≡ cond (fitsOf h b) (cond (ltb room (row (typeOf b) .length)) (refusal 1) (answered (pos (row (typeOf b) .length) ∷ []))) (refusal 7)
 unfolding writeOf
 told-write h b room = told-picked (fitsOf h b) (ltb room (row (typeOf b) .length)) (row (typeOf b) .length)

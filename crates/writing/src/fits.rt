@@ -1,32 +1,40 @@
 // Whether a header and a body make a message, each number with room in its place.
 ghost use mathlib.Core.Path.{_≡_};
 ghost use Prim.Native.Nat.{_+_};
+ghost use mathlib.Core.Bool.{_&&_};
 ghost use mathlib.Core.List.{_++_};
+ghost use Rattle.time.specs.Units.{timeOfWire};
 ghost use Rattle.wire.specs.Bytes.{roomy};
-ghost use Rattle.wire.specs.Layout.{body, timestampEntries, identityEntries, bodyEntries};
-ghost use Rattle.writing.specs.Writing.{fitsOf};
+ghost use Rattle.wire.specs.Layout.{body, timestampEntries, identityEntries, bodyEntries, timestampOf};
+ghost use Rattle.writing.specs.Writing.{isTime, fitsOf};
+use time::ReadAnswer;
+use time::Time;
 use time::WireTimestamp;
 use wire::Body;
 use wire::Header;
 use wire::Identity;
 
-// Whether each number of a timestamp has room in its place: the seconds have 48 bits there.
+// Whether each number of a timestamp has room in its place, and it reads as a time.
 fn stamp_fits(w: WireTimestamp) -> bool
-    ensures { λ r. ⌜ r ≡ roomy (timestampEntries body w) ⌝ }
+    ensures { λ r. ⌜ r ≡ (roomy (timestampEntries body w) && isTime (timeOfWire w)) ⌝ }
 {
-    w.seconds < 0x1_0000_0000_0000
+    let read = Time::of_wire(w);
+    match read {
+        ReadAnswer::Value(_) => true,
+        ReadAnswer::Seconds => false,
+    }
 }
 
 // The same with the requester's identity behind it.
 fn answer_fits(w: WireTimestamp, who: Identity) -> bool
-    ensures { λ r. ⌜ r ≡ roomy (timestampEntries body w ++ identityEntries (body + 10) who) ⌝ }
+    ensures { λ r. ⌜ r ≡ (roomy (timestampEntries body w ++ identityEntries (body + 10) who) && isTime (timeOfWire w)) ⌝ }
 {
     stamp_fits(w)
 }
 
-// Whether each number of a body has room in its place.
+// Whether each number of a body has room in its place, and its timestamp reads as a time.
 fn body_fits(b: Body) -> bool
-    ensures { λ r. ⌜ r ≡ roomy (bodyEntries body b) ⌝ }
+    ensures { λ r. ⌜ r ≡ (roomy (bodyEntries body b) && isTime (timeOfWire (timestampOf b))) ⌝ }
 {
     match b {
         Body::Sync { origin } => stamp_fits(origin),

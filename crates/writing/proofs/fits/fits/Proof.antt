@@ -7,7 +7,7 @@ use Rattle.wire.specs.Layout.{row, typeOf, headerEntries, identityEntries}
 use Rattle.writing.specs.Writing.{fitsOf, together}
 use Rattle.wire.specs.BytesLaws.{fits-roomy}
 use Rattle.wire.specs.LayoutLaws.{row-small}
-use Rattle.writing.proofs.Room.{fits-is}
+use Rattle.writing.proofs.Room.{fits-by-tests}
 use borrow.Author.Needs.{needs}
 use Rattle.writing.proofs.fits.fits.Statement.{statement}
 use Rattle.writing.proofs.fits.fits.Tie as tie
@@ -52,7 +52,7 @@ returns-4 c =
     let kind = c .before .before .before .before .before .before .if2 .left ∙ number in
     let small = row-small (typeOf (s .args .b)) in
     let t : together h (s .args .b) ≡ true = simp (eq-eqb _ _ version, eq-eqb _ _ kind, eq-eqb _ _ (c .before .before .before .if3 .left ∙ length)) in
-    simp (c .body-fits .ensures) (fits-is h (s .args .b) t (λ p q. fits-roomy (headerEntries h (row (typeOf (s .args .b)) .control))
+    simp (c .body-fits .ensures) (fits-by-tests h (s .args .b) t (λ p q. fits-roomy (headerEntries h (row (typeOf (s .args .b)) .control))
     (omega (arith, p, kind, small .0), (omega (arith, q, version), (omega (arith, s .good), (omega (arith, s .good), (omega (arith, s .good), (omega (arith, s .good), (omega (arith, s .good), (omega arith, (omega (arith, s .good), (omega (arith, s .good), (omega (arith, s .good), (small .1, (omega (arith, s .good), tt)))))))))))))))
 
 pub fits-spec : {M : Type 1} → statement M
