@@ -1,9 +1,10 @@
 #!/bin/sh
 # daemon_packets.sh [SECONDS [FOLDER]]: packets of ptp4l and ptpd, decoded by tshark and by our reader.
 #
-# Lets a master and a slave talk for so many seconds (15 if not said; ptpd sends nothing in the first 6) over a virtual link between two
-# network namespaces, for each daemon, delay mechanism and transport below, captures what the slave's end
-# sees, and hands the captures to tools/tshark_packets.py. They are kept if a folder for them is named.
+# Lets a master and a slave talk for so many seconds (15 if not said; at least 10, since ptpd begins late)
+# over a virtual link between two network namespaces, for each daemon, delay mechanism and transport below,
+# captures what the slave's end sees, and hands the captures to tools/tshark_packets.py. They are kept if a
+# folder for them is named.
 # Among ptp4l's packets are two kinds that are the host's: Management, since its command pmc asks
 # something, and in unicast Signaling.
 # Linux, as root; Debian's packages are linuxptp, ptpd, tcpdump, iproute2, util-linux and tshark. The
