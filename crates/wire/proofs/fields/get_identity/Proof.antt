@@ -14,7 +14,7 @@ get-u16-requires c κs = search needs
 
 returns : tie.Need-returns
 unfolding identityAt
-returns c = cc
+returns c = simp (c .before .get-u64 .ensures, c .get-u16 .ensures)
 
 pub get-identity-spec : {M : Type 1} → statement M
 get-identity-spec = tie.close (tie.spec get-u64-requires add-get-u16 get-u16-requires returns)

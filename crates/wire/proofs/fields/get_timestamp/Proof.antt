@@ -14,7 +14,7 @@ get-u32-requires c κs = search needs
 
 returns : tie.Need-returns
 unfolding timestampAt
-returns c = cc
+returns c = simp (c .before .get .ensures .0, c .get-u32 .ensures)
 
 pub get-timestamp-spec : {M : Type 1} → statement M
 get-timestamp-spec = tie.close (tie.spec get-requires add-get-u32 get-u32-requires returns)

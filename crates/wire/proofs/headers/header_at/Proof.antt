@@ -35,7 +35,7 @@ get-u8-requires-5 c κs = search needs
 
 returns : tie.Need-returns
 unfolding headerOf
-returns c = cc
+returns c = simp (c .get-u85 .ensures, c .before .get-u163 .ensures, c .before .before .get-u64 .ensures, c .before .before .before .get-u162 .ensures, c .before .before .before .before .get-u84 .ensures, c .before .before .before .before .before .get-u83 .ensures, c .before .before .before .before .before .before .get-u16 .ensures, c .before .before .before .before .before .before .before .get-identity .ensures, c .before .before .before .before .before .before .before .before .get-u82 .ensures, c .before .before .before .before .before .before .before .before .before .get-u8 .ensures)
 
 pub header-at-spec : {M : Type 1} → statement M
 header-at-spec =

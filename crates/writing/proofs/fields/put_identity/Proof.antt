@@ -18,7 +18,7 @@ same-length c = search needs
 
 returns : tie.Need-returns
 unfolding puts identityEntries
-returns c = cc
+returns c = simp (c .before .before .put-u16 .ensures, c .before .before .before .before .before .before .put .ensures)
 
 pub put-identity-spec : {M : Type 1} → statement M
 put-identity-spec =

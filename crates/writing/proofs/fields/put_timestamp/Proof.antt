@@ -21,7 +21,7 @@ same-length c = search needs
 
 returns : tie.Need-returns
 unfolding puts timestampEntries
-returns c = cc
+returns c = simp (c .before .before .put2 .ensures, c .before .before .before .before .before .before .before .put .ensures)
 
 pub put-timestamp-spec : {M : Type 1} → statement M
 put-timestamp-spec =

@@ -1,3 +1,7 @@
+use mathlib.Core.Path.{_∙_, ap}
+use lib.ListN.{drop}
+use Rattle.wire.specs.Bytes.{puts}
+use Rattle.wire.specs.Layout.{headerEntries}
 use Rattle.wire.specs.LayoutLaws.{header-written}
 use borrow.Author.Needs.{needs}
 use Rattle.writing.proofs.headers.write_header.Statement.{statement}
@@ -15,7 +19,9 @@ same-length c = search needs
 returns : tie.Need-returns
 returns c =
     let a = c .before .before .before .before .before .before .before .before .before .args in
-    cc (header-written (a .h) (a .control) (a .packet .now) (search needs))
+    c .before .before .write-back .ensures
+    ∙ ap (puts (drop 7 (headerEntries (a .h) (a .control)))) (c .before .before .before .before .before .before .write-front .ensures)
+    ∙ header-written (a .h) (a .control) (a .packet .now) (search needs)
 
 pub write-header-spec : {M : Type 1} → statement M
 write-header-spec =
