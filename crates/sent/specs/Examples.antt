@@ -13,6 +13,7 @@ use Rattle.sent.specs.declared.Message.{Message}
 use Rattle.sent.specs.declared.MessageAnswer.{MessageAnswer}
 use Rattle.sent.specs.declared.MessageAnswer.the-variants as A
 use Rattle.sent.specs.Messages.{headerFor, zeroTimestamp, correctionOf, answerStamp, followStamp, syncOf, delayReqOf, followUpOf, pDelayReqOf, pDelayRespOf, delayRespOf, pDelayRespFollowUpOf}
+use Rattle.writing.specs.Examples.{stampBytes, requesterBytes}
 
 -- ---- the parts
 
@@ -54,12 +55,6 @@ at nanoseconds fraction = timeWords (pos (nanoseconds * 2 ^ 32 + fraction))
 -- a stamp, with this fraction of its last nanosecond
 abbrev stamp : ℕ → Time
 stamp fraction = at (0x414243444546 * 10 ^ 9 + 0x1748494A) fraction
-
-abbrev stampBytes : List ℕ
-stampBytes = 0x41 ∷ 0x42 ∷ 0x43 ∷ 0x44 ∷ 0x45 ∷ 0x46 ∷ 0x17 ∷ 0x48 ∷ 0x49 ∷ 0x4A ∷ []
-
-abbrev requesterBytes : List ℕ
-requesterBytes = 0x51 ∷ 0x52 ∷ 0x53 ∷ 0x54 ∷ 0x55 ∷ 0x56 ∷ 0x57 ∷ 0x58 ∷ 0x59 ∷ 0x5A ∷ []
 
 abbrev zeros : List ℕ
 zeros = 0x00 ∷ 0x00 ∷ 0x00 ∷ 0x00 ∷ 0x00 ∷ 0x00 ∷ 0x00 ∷ 0x00 ∷ 0x00 ∷ 0x00 ∷ []

@@ -12,6 +12,7 @@ use Rattle.time.specs.Laws.{was-value, was-refused, signed-low, signed-high}
 use Rattle.time.specs.Lemmas.Integers.{sub-ge, sub-lt, pos-minus, pos-sub, difference-is}
 use Rattle.sent.specs.declared.CorrectionAnswer.the-variants as C
 use Rattle.sent.specs.Messages.{inCorrection, word, correctionOf}
+use Rattle.wire.specs.BytesLaws.{apart}
 
 -- as one bound of ℕ: `mag z` is n both for n and for -(n + 1)
 in-correction : (z : ℤ) → inCorrection z ≡ ltb (mag z) (2 ^ 63)
@@ -54,9 +55,7 @@ same-correction : (a b : ℕ) → C.Value a ≡ C.Value b → a ≡ b
 same-correction a b e = cc
 
 no-correction : (c : ℕ) → C.Value c ≡ C.Out → ⊥
-no-correction c e =
-    let y : _≡_ {A = ℕ} 0 1 = cc in
-    omega arith
+no-correction c e = apart cc
 
 word-means : (z : ℤ) → mag z < 2 ^ 63 → signed 64 (word z) ≡ z
 word-means (pos n) h = signed-low 64 n h

@@ -14,14 +14,13 @@ use Rattle.time.specs.Units.{timeWords, wire, timeOfWire}
 use Rattle.wire.specs.declared.Identity.{Identity}
 use Rattle.wire.specs.declared.Header.{Header}
 use Rattle.wire.specs.declared.MessageType.{MessageType}
-use Rattle.wire.specs.declared.MessageType.the-variants as M
 use Rattle.wire.specs.declared.Body.{Body}
 use Rattle.wire.specs.declared.Body.the-variants as B
 use Rattle.wire.specs.declared.Reading.the-variants as G
 use Rattle.wire.specs.Layout.{row, body, typeOf, timestampOf, restIn, restEntries, headerEntries, identityEntries, timestampEntries, bodyEntries, messageEntries, messageBytes, twoStepFlag, sdoId}
 use Rattle.wire.specs.Reading.{readOf}
 use Rattle.wire.specs.BytesLaws.{apart, Fits}
-use Rattle.wire.specs.LayoutLaws.{length-message, row-small, InWidths}
+use Rattle.wire.specs.LayoutLaws.{length-message, row-bounds, InWidths}
 use Rattle.writing.specs.declared.Written.the-variants as W
 use Rattle.writing.specs.Writing.{fitsOf, writeOf, isTime}
 use Rattle.writing.specs.WritingLaws.{fits-is, fits-when, write-when}
@@ -51,15 +50,6 @@ sdo-halves n h = (omega arith, omega arith)
 halves-small : (a b : ℕ) → a < 16 → b < 16 → a * 16 + b < 256
 halves-small a b h k = omega arith
 
-length-small : (t : MessageType) → row t .length < 2 ^ 16
-length-small M.Sync = lit< tt
-length-small M.DelayReq = lit< tt
-length-small M.PDelayReq = lit< tt
-length-small M.PDelayResp = lit< tt
-length-small M.FollowUp = lit< tt
-length-small M.DelayResp = lit< tt
-length-small M.PDelayRespFollowUp = lit< tt
-
 -- and both together are the sdo id that the header gives back
 pub sdo-sent : (s : Sender) (t : MessageType) (flags correction id interval : ℕ) → sdoId (headerFor s t flags correction id interval) ≡ s .sdo
 unfolding sdoId headerFor
@@ -76,7 +66,7 @@ header-fits s t b flags correction id interval l same f time g c i v =
       length-is = ap (λ (x : MessageType). row x .length) (sym same);
       major = major;
       minor = l .minor;
-      each = (halves-small (s .sdo / 256) (row t .number) major (row-small t .0), (halves-small (s .minor) 2 (l .minor) (lit< tt), (length-small t, (l .domain, (minorSdo, (g, (c, (lit< tt, (l .identity .clock, (l .identity .port, (i, (row-small (typeOf b) .1, (v, f)))))))))))));
+      each = (halves-small (s .sdo / 256) (row t .number) major (row-bounds t .number), (halves-small (s .minor) 2 (l .minor) (lit< tt), (row-bounds t .length, (l .domain, (minorSdo, (g, (c, (lit< tt, (l .identity .clock, (l .identity .port, (i, (row-bounds (typeOf b) .control, (v, f)))))))))))));
       timed = time;
     }
 

@@ -5,7 +5,7 @@ use mathlib.Core.Bool.{Bool, true, false, cond}
 use mathlib.Core.List.{List, [], _∷_, _++_}
 use native.Mathlib.Omega.{arith}
 use lib.ListN.{length, take, drop, length-append}
-use lib.Dec.{eqb}
+use lib.Dec.{eqb, lit<, lit≤}
 use borrow.Author.Tests.{eq-eqb, eqb-true}
 use Rattle.wire.specs.declared.Identity.{Identity}
 use Rattle.wire.specs.declared.Header.{Header}
@@ -95,25 +95,21 @@ length-message h b =
 
 -- ---- the types
 
--- each has a timestamp
-pub stamp-room : (t : MessageType) → 44 ≤ row t .length
-stamp-room M.Sync = omega arith
-stamp-room M.DelayReq = omega arith
-stamp-room M.PDelayReq = omega arith
-stamp-room M.PDelayResp = omega arith
-stamp-room M.FollowUp = omega arith
-stamp-room M.DelayResp = omega arith
-stamp-room M.PDelayRespFollowUp = omega arith
+-- the bounds of a row: a type number has four bits, control a byte, the length two; and each message has room for its timestamp
+pub record RowBounds (t : MessageType) : Type 0 where
+  pub number : row t .number < 16
+  pub control : row t .control < 256
+  pub length : row t .length < 2 ^ 16
+  pub stamped : 44 ≤ row t .length
 
--- a type number has four bits, a control byte eight
-pub row-small : (t : MessageType) → (row t .number < 16) × (row t .control < 256)
-row-small M.Sync = (omega arith, omega arith)
-row-small M.DelayReq = (omega arith, omega arith)
-row-small M.PDelayReq = (omega arith, omega arith)
-row-small M.PDelayResp = (omega arith, omega arith)
-row-small M.FollowUp = (omega arith, omega arith)
-row-small M.DelayResp = (omega arith, omega arith)
-row-small M.PDelayRespFollowUp = (omega arith, omega arith)
+pub row-bounds : (t : MessageType) → RowBounds t
+row-bounds M.Sync = record { number = lit< tt; control = lit< tt; length = lit< tt; stamped = lit≤ tt }
+row-bounds M.DelayReq = record { number = lit< tt; control = lit< tt; length = lit< tt; stamped = lit≤ tt }
+row-bounds M.PDelayReq = record { number = lit< tt; control = lit< tt; length = lit< tt; stamped = lit≤ tt }
+row-bounds M.PDelayResp = record { number = lit< tt; control = lit< tt; length = lit< tt; stamped = lit≤ tt }
+row-bounds M.FollowUp = record { number = lit< tt; control = lit< tt; length = lit< tt; stamped = lit≤ tt }
+row-bounds M.DelayResp = record { number = lit< tt; control = lit< tt; length = lit< tt; stamped = lit≤ tt }
+row-bounds M.PDelayRespFollowUp = record { number = lit< tt; control = lit< tt; length = lit< tt; stamped = lit≤ tt }
 
 pub number-kind : (t : MessageType) → kindOf (row t .number) ≡ K.Table t
 unfolding kindOf

@@ -18,7 +18,7 @@ use Rattle.wire.specs.Bytes.{Place, fieldAt, number}
 use Rattle.wire.specs.Layout.{row, headerOf, bodyOf, timestampAt, identityAt, body, lowHalf, kindOf, readTo, unread, lies, unreadAt, reservedIn, messageLength}
 use Rattle.wire.specs.Reading.{row4, row5, timed, messageOf, decoded, readOf, shortFor, kindIn, statedEnd}
 use Rattle.wire.specs.BytesLaws.{neither, number-same, number-inside}
-use Rattle.wire.specs.LayoutLaws.{stamp-room}
+use Rattle.wire.specs.LayoutLaws.{row-bounds}
 use Rattle.wire.specs.ReadingLaws.{past-row5}
 
 -- byte i lies in none of the places, as facts
@@ -86,7 +86,7 @@ abbrev pub Agree : Kind → List ℕ → List ℕ → Type 0
 Agree k l m = (i : ℕ) → unreadAt k i ≡ false → getD l i 0 ≡ getD m i 0
 
 to-header : (k : Kind) → 34 ≤ readTo k
-to-header (K.Table t) = omega (arith, stamp-room t)
+to-header (K.Table t) = omega (arith, row-bounds t .stamped)
 to-header K.Host = lit≤ tt
 to-header K.Reserved = lit≤ tt
 
@@ -111,7 +111,7 @@ module _ (t : MessageType) (l m : List ℕ) (e : Agree (K.Table t) l m) where
   stamp-read : timestampAt body l ≡ timestampAt body m
   unfolding unread
   stamp-read =
-      timestamp-same body l m (λ i a b. e i (read-at-when (K.Table t) i (omega (arith, stamp-room t)) (λ c d. omega arith, (λ c d. omega arith, reserved-behind (K.Table t) i (omega arith)))))
+      timestamp-same body l m (λ i a b. e i (read-at-when (K.Table t) i (omega (arith, row-bounds t .stamped)) (λ c d. omega arith, (λ c d. omega arith, reserved-behind (K.Table t) i (omega arith)))))
 
   requester-read : row t .length ≡ 54 → ((i : ℕ) → Outside (reservedIn (K.Table t)) i) → identityAt (body + 10) l ≡ identityAt (body + 10) m
   unfolding unread

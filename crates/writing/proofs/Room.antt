@@ -1,7 +1,7 @@
 -- Which headers and bodies fit, told from the tests that the code makes.
 use Prim.Native.Nat.{_+_, _^_, _<_}
-use mathlib.Core.Path.{_≡_, refl, sym, ap, _∙_}
-use mathlib.Core.Bool.{Bool, true, false, _&&_, false≢true}
+use mathlib.Core.Path.{_≡_, refl, sym}
+use mathlib.Core.Bool.{Bool, true, false, _&&_}
 use mathlib.Core.List.{List, [], _∷_, _++_}
 use lib.Dec.{ltb}
 use borrow.Author.Tests.{ltb-true}
@@ -10,13 +10,7 @@ use Rattle.wire.specs.declared.Body.{Body}
 use Rattle.wire.specs.Bytes.{Entry, roomy}
 use Rattle.wire.specs.Layout.{row, typeOf, body, headerEntries, bodyEntries, messageEntries, timestampOf}
 use Rattle.writing.specs.Writing.{together, fitsOf, isTime}
-use native.Mathlib.Decide.{decLt}
 use Rattle.time.specs.Units.{timeOfWire}
-use Rattle.time.specs.WireLaws.{read-out}
-use Rattle.time.specs.Lemmas.Integers.{not-below}
-use Rattle.time.specs.declared.WireTimestamp.{WireTimestamp}
-use Rattle.time.specs.declared.Time.{Time}
-use Rattle.time.specs.declared.ReadAnswer.the-variants as R
 
 and-assoc : (a b c : Bool) → (a && b) && c ≡ a && (b && c)
 and-assoc true b c = refl
@@ -40,11 +34,3 @@ fits-by-tests h b t e =
     simp (t, roomy-append (headerEntries h (row (typeOf b) .control)) (bodyEntries body b))
     (where-both (ltb (h .«major_sdo») 16) (ltb (h .minor) 16) (roomy (headerEntries h (row (typeOf b) .control))) (roomy (bodyEntries body b)) (isTime (timeOfWire (timestampOf b)))
     (λ p q. e (ltb-true (h .«major_sdo») 16 p) (ltb-true (h .minor) 16 q)))
-
--- seconds that read as a time have 48 bits
-pub seconds-small : (w : WireTimestamp) (t : Time) → timeOfWire w ≡ R.Value t → w .seconds < 2 ^ 48
-seconds-small w t e = go (decLt (w .seconds) (2 ^ 48))
-  where
-    go : Dec (w .seconds < 2 ^ 48) → w .seconds < 2 ^ 48
-    go (yes h) = h
-    go (no h) = absurd (false≢true (sym (ap isTime (read-out w (not-below (w .seconds) (2 ^ 48) h))) ∙ ap isTime e))

@@ -46,7 +46,7 @@ says type stated =
       interval = 0x3C;
     }
 
-abbrev stampBytes : List ℕ
+abbrev pub stampBytes : List ℕ
 stampBytes = 0x41 ∷ 0x42 ∷ 0x43 ∷ 0x44 ∷ 0x45 ∷ 0x46 ∷ 0x17 ∷ 0x48 ∷ 0x49 ∷ 0x4A ∷ []
 
 abbrev stamp : WireTimestamp
@@ -56,7 +56,7 @@ stamp = record { seconds = 0x414243444546; nanos = 0x1748494A }
 abbrev stampTime : Time
 stampTime = record { hi = 0xF31BADB7C1C; lo = 0xC40D854A00000000 }
 
-abbrev requesterBytes : List ℕ
+abbrev pub requesterBytes : List ℕ
 requesterBytes = 0x51 ∷ 0x52 ∷ 0x53 ∷ 0x54 ∷ 0x55 ∷ 0x56 ∷ 0x57 ∷ 0x58 ∷ 0x59 ∷ 0x5A ∷ []
 
 abbrev requester : Identity

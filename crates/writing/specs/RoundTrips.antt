@@ -28,7 +28,7 @@ use Rattle.wire.specs.Layout.{headerEntries, headerOf, timestampEntries, timest
 use Rattle.wire.specs.Reading.{row4, row5, readOf, shortFor, reserved, kindIn}
 use Rattle.writing.specs.Writing.{fitsOf, writeOf, leftOf, isTime}
 use Rattle.wire.specs.BytesLaws.{both, Fits, Reads, reads-parts, reads-back, number-lt, length-bytesOf, length-spell, spell-number}
-use Rattle.wire.specs.LayoutLaws.{message-tiles, length-message, number-kind, row-small, body-size}
+use Rattle.wire.specs.LayoutLaws.{message-tiles, length-message, number-kind, row-bounds, body-size}
 use Rattle.wire.specs.ReadingLaws.{row4-passed, row5-passed, IsMessage, message-when, message-is}
 use Rattle.writing.specs.WritingLaws.{Fitting, fits-is, fits-when, write-when, write-is, left-when, time-given}
 use Rattle.wire.specs.UnreadLaws.{read-at-is}
@@ -76,7 +76,7 @@ module _ (h : Header) (b : Body) (f : Fitting h b) (q : List ℕ) where
   unfolding headerOf headerEntries identityEntries identityAt
   header-back =
       let (r0, (r1, (r2, (r4, (r5, (r6, (r8, (r16, (r20, (r28, (r30, (r32, (r33, r))))))))))))) = stands .0 in
-      let (major, kind) = halves-back (h .«major_sdo») (h .kind) (rw (f .number-is) (row-small (typeOf b) .0)) in
+      let (major, kind) = halves-back (h .«major_sdo») (h .kind) (rw (f .number-is) (row-bounds (typeOf b) .number)) in
       let (minor, version) = halves-back (h .minor) (h .version) (rw (f .version) (lit< tt)) in
       simp (r0, r1, r2, r4, r5, r6, r8, r20, r28, r30, r33, major, kind, minor, version)
 
@@ -236,7 +236,7 @@ read-writes l h b t bytes e n =
     let m : IsMessage l h b t = message-is l h b t e in
     let k : Kind = K.Table (typeOf b) in
     let c : ℕ = row (typeOf b) .control in
-    let head : Origins k l (headerEntries h c) = subst (λ (x : Header). Origins k l (headerEntries x c)) (sym (m .header-is)) (header-origins k l c (row-small (typeOf b) .1)) in
+    let head : Origins k l (headerEntries h c) = subst (λ (x : Header). Origins k l (headerEntries x c)) (sym (m .header-is)) (header-origins k l c (row-bounds (typeOf b) .control)) in
     let rest : Origins k l (bodyEntries body b) = subst (λ (x : Body). Origins k l (bodyEntries body x)) (sym (m .body-is)) (body-origins (typeOf b) l) in
     let o : Origins k l (messageEntries h b) = origins-joined k l (headerEntries h c) (bodyEntries body b) head rest in
     let long : length (messageBytes h b) ≡ row (typeOf b) .length = length-message h b in

@@ -62,13 +62,16 @@ unfolding fitsOf together
 fits-when h b f =
     simp (eq-eqb (h .version) 2 (f .version), eq-eqb (h .kind) (row (typeOf b) .number) (f .number-is), eq-eqb (h .length) (row (typeOf b) .length) (f .length-is), lt-ltb (h .«major_sdo») 16 (f .major), lt-ltb (h .minor) 16 (f .minor), fits-roomy (messageEntries h b) (f .each), f .timed)
 
--- a timestamp that reads as a time reads as the one that it means
-pub time-given : (w : WireTimestamp) → isTime (timeOfWire w) ≡ true → timeOfWire w ≡ R.Value (timeWords (wire w))
-time-given w e = go (decLt (w .seconds) (2 ^ 48))
+-- a timestamp that reads as a time has seconds of 48 bits, and reads as the time that it means
+pub seconds-given : (w : WireTimestamp) → isTime (timeOfWire w) ≡ true → w .seconds < 2 ^ 48
+seconds-given w e = go (decLt (w .seconds) (2 ^ 48))
   where
-    go : Dec (w .seconds < 2 ^ 48) → timeOfWire w ≡ R.Value (timeWords (wire w))
-    go (yes h) = read-in w h
+    go : Dec (w .seconds < 2 ^ 48) → w .seconds < 2 ^ 48
+    go (yes h) = h
     go (no h) = absurd (false≢true (sym (ap isTime (read-out w (not-below (w .seconds) (2 ^ 48) h))) ∙ e))
+
+pub time-given : (w : WireTimestamp) → isTime (timeOfWire w) ≡ true → timeOfWire w ≡ R.Value (timeWords (wire w))
+time-given w e = read-in w (seconds-given w e)
 
 -- written exactly where it fits and the room is enough
 pub write-when : (h : Header) (b : Body) (room : ℕ) → fitsOf h b ≡ true → row (typeOf b) .length ≤ room → writeOf h b room ≡ W.Length (row (typeOf b) .length)

@@ -7,7 +7,7 @@ use Rattle.wire.specs.Bytes.{bytesOf}
 use Rattle.writing.proofs.Lent.{lent-length, laid}
 use native.Mathlib.Omega.{arith}
 use Rattle.wire.specs.Layout.{row, typeOf, headerEntries}
-use Rattle.wire.specs.LayoutLaws.{length-header, body-size, row-small}
+use Rattle.wire.specs.LayoutLaws.{length-header, body-size, row-bounds}
 use Rattle.writing.specs.WritingLaws.{fits-is}
 use borrow.Author.Needs.{needs}
 use Rattle.writing.proofs.lay.Statement.{statement}
@@ -23,7 +23,7 @@ write-header-requires : tie.Need-write-header-requires
 write-header-requires c κs =
     let s = c .before .before .before .before in
     let f = fits-is (s .args .header) (s .args .body) (s .pre .0) in
-    (omega (arith, s .pre .1, body-size 0 (s .args .body)), f .major, omega (arith, f .number-is, row-small (typeOf (s .args .body)) .0), f .minor, omega (arith, f .version))
+    (omega (arith, s .pre .1, body-size 0 (s .args .body)), f .major, omega (arith, f .number-is, row-bounds (typeOf (s .args .body)) .number), f .minor, omega (arith, f .version))
 
 sub-write-body : tie.Need-sub-write-body
 sub-write-body c = omega (arith, c .before .before .before .before .before .before .before .pre .1, body-size 0 (c .before .before .before .before .before .before .before .args .body))

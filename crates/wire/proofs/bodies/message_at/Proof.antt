@@ -3,7 +3,7 @@ use mathlib.Core.Path.{sym, _∙_, ap}
 use borrow.Author.Needs.{needs}
 use borrow.Author.Tests.{lt-ltb, le-ltb}
 use Rattle.time.specs.Units.{timeOfWire}
-use Rattle.wire.specs.LayoutLaws.{stamp-room}
+use Rattle.wire.specs.LayoutLaws.{row-bounds}
 use Rattle.wire.specs.Reading.{messageOf}
 use Rattle.wire.proofs.bodies.message_at.Statement.{statement}
 use Rattle.wire.proofs.bodies.message_at.Tie as tie
@@ -16,7 +16,7 @@ returns c =
     simp (lt-ltb (c .before .before .before .args .header .length) (c .before .length .result) (omega (arith, c .if1 .taken)), sym (c .before .length .ensures))
 
 get-timestamp-requires : tie.Need-get-timestamp-requires
-get-timestamp-requires c κs = omega (arith, c .if1 .left, c .before .length .ensures, stamp-room (c .before .before .before .args .t), c .before .before .before .pre .1)
+get-timestamp-requires c κs = omega (arith, c .if1 .left, c .before .length .ensures, row-bounds (c .before .before .before .args .t) .stamped, c .before .before .before .pre .1)
 
 of-wire-requires : tie.Need-of-wire-requires
 of-wire-requires c κs = search needs

@@ -6,7 +6,7 @@ use Rattle.wire.specs.declared.MessageType.{MessageType}
 use Rattle.wire.specs.Layout.{row, typeOf, headerEntries, identityEntries}
 use Rattle.writing.specs.Writing.{fitsOf, together}
 use Rattle.wire.specs.BytesLaws.{fits-roomy}
-use Rattle.wire.specs.LayoutLaws.{row-small}
+use Rattle.wire.specs.LayoutLaws.{row-bounds}
 use Rattle.writing.proofs.Room.{fits-by-tests}
 use borrow.Author.Needs.{needs}
 use Rattle.writing.proofs.fits.fits.Statement.{statement}
@@ -50,10 +50,10 @@ returns-4 c =
     let length = c .before .before .before .before .before .length .ensures ∙ ap (λ (t : MessageType). row t .length) (c .before .before .before .before .before .before .before .before .before .before .before .message-type .ensures) in
     let version = c .before .before .before .before .before .before .before .before .before .if1 .left in
     let kind = c .before .before .before .before .before .before .if2 .left ∙ number in
-    let small = row-small (typeOf (s .args .b)) in
+    let small = row-bounds (typeOf (s .args .b)) in
     let t : together h (s .args .b) ≡ true = simp (eq-eqb _ _ version, eq-eqb _ _ kind, eq-eqb _ _ (c .before .before .before .if3 .left ∙ length)) in
     simp (c .body-fits .ensures) (fits-by-tests h (s .args .b) t (λ p q. fits-roomy (headerEntries h (row (typeOf (s .args .b)) .control))
-    (omega (arith, p, kind, small .0), (omega (arith, q, version), (omega (arith, s .good), (omega (arith, s .good), (omega (arith, s .good), (omega (arith, s .good), (omega (arith, s .good), (omega arith, (omega (arith, s .good), (omega (arith, s .good), (omega (arith, s .good), (small .1, (omega (arith, s .good), tt)))))))))))))))
+    (omega (arith, p, kind, small .number), (omega (arith, q, version), (omega (arith, s .good), (omega (arith, s .good), (omega (arith, s .good), (omega (arith, s .good), (omega (arith, s .good), (omega arith, (omega (arith, s .good), (omega (arith, s .good), (omega (arith, s .good), (small .control, (omega (arith, s .good), tt)))))))))))))))
 
 pub fits-spec : {M : Type 1} → statement M
 fits-spec =

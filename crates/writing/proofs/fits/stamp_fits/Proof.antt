@@ -1,12 +1,13 @@
 use Prim.Native.Nat.{_^_}
-use mathlib.Core.Path.{sym, _∙_}
+use mathlib.Core.Path.{sym, ap, _∙_}
 use mathlib.Core.Bool.{and-false}
 use native.Mathlib.Omega.{arith}
 use borrow.Author.Needs.{needs}
 use borrow.Author.Tests.{lt-ltb}
 use Rattle.wire.specs.Bytes.{roomy}
 use Rattle.wire.specs.Layout.{timestampEntries}
-use Rattle.writing.proofs.Room.{seconds-small}
+use Rattle.writing.specs.Writing.{isTime}
+use Rattle.writing.specs.WritingLaws.{seconds-given}
 use Rattle.writing.proofs.fits.stamp_fits.Statement.{statement}
 use Rattle.writing.proofs.fits.stamp_fits.Tie as tie
 
@@ -24,7 +25,7 @@ unfolding roomy timestampEntries
 returns c =
     let s = c .before .before .before in
     let read = sym (c .before .before .of-wire .ensures) ∙ c .enum-told .given .1 in
-    let seconds = lt-ltb (s .args .w .seconds) (256 ^ 6) (seconds-small (s .args .w) _ read) in
+    let seconds = lt-ltb (s .args .w .seconds) (256 ^ 6) (seconds-given (s .args .w) (ap isTime read)) in
     let nanos = lt-ltb (s .args .w .nanos) (256 ^ 4) (omega (arith, s .good)) in
     simp (read, seconds, nanos)
 
