@@ -1,0 +1,52 @@
+use borrow.Author.Needs.{needs}
+use Rattle.record.proofs.PortState.is_slave.Statement.{statement}
+use Rattle.record.proofs.PortState.is_slave.Tie as tie
+
+enum-told : tie.Need-enum-told
+enum-told c = search needs
+
+enum-told-2 : tie.Need-enum-told-2
+enum-told-2 c = search needs
+
+enum-told-3 : tie.Need-enum-told-3
+enum-told-3 c = search needs
+
+enum-told-4 : tie.Need-enum-told-4
+enum-told-4 c = search needs
+
+enum-known-self : tie.Need-enum-known-self
+enum-known-self c = search needs
+
+same-requires : tie.Need-same-requires
+same-requires c κs = search needs
+
+returns : tie.Need-returns
+returns c = search needs
+
+returns-2 : tie.Need-returns-2
+returns-2 c = search needs
+
+returns-3 : tie.Need-returns-3
+returns-3 c = search needs
+
+returns-4 : tie.Need-returns-4
+returns-4 c = search needs
+
+returns-5 : tie.Need-returns-5
+returns-5 c = simp (c .same .ensures, c .before .before .self .given .1)
+
+pub is-slave-spec : {M : Type 1} → statement M
+is-slave-spec =
+    tie.close
+    (tie.spec
+    enum-told
+    enum-told-2
+    enum-told-3
+    enum-told-4
+    enum-known-self
+    same-requires
+    returns
+    returns-2
+    returns-3
+    returns-4
+    returns-5)

@@ -1,0 +1,12 @@
+-- To be believed: `Ids`, `Record`, `Fit`, `Same`, `Answers`. What follows from them: the laws and the examples.
+pub mod Ids
+pub mod Record
+pub mod Fit
+pub mod Same
+pub mod Answers
+pub mod JoinedLaws
+pub mod ExactLaws
+pub mod SameLaws
+pub mod FitLaws
+pub mod AnswersLaws
+pub mod Examples

@@ -1,0 +1,64 @@
+-- What the port is told, and what it answers.
+use Prim.Native.Nat.{ℕ}
+use mathlib.Core.Bool.{Bool, true, false}
+use mathlib.Core.List.{List, [], _∷_, _++_}
+use mathlib.Core.Option.{Option, none, some}
+use Rattle.rules.specs.Names.{Time, Message, Port, Context, FilterUpdate, NewState, Outcome, MaybeMeasurement, Action}
+use Rattle.wire.specs.Layout.{messageBytes}
+use Rattle.rules.specs.Worked.{Worked, worked, refused}
+
+-- the seven events, as the event log has them
+pub data Event : Type 0 where
+  event : Time → List ℕ → Event  -- a message on the event entry, with its receive time
+  general : List ℕ → Event  -- a message on the general entry
+  stamp : Time → Context → Event  -- a send stamp
+  syncTimer : Event
+  delayTimer : ℕ → Event  -- with its draw
+  filterAnswer : FilterUpdate → Event
+  setState : NewState → Event
+
+-- what a rule gives: the record, perhaps a measurement, perhaps a message to send, actions in their order, and whether the filter is reset
+pub record Done : Type 0 where
+  pub port : Port
+  pub measurement : MaybeMeasurement
+  pub message : Option Message
+  pub actions : List Action
+  pub reset : Bool
+
+-- what is answered; `sent` is the packet, empty if nothing is sent
+pub record Result : Type 0 where
+  pub outcome : Outcome
+  pub port : Port
+  pub measurement : MaybeMeasurement
+  pub sent : List ℕ
+  pub actions : List Action
+  pub reset : Bool
+
+abbrev pub packet : Option Message → List ℕ
+packet none = []
+packet (some m) = messageBytes (m .header) (m .body)
+
+-- a refusal: the record that was found, and nothing beside it
+abbrev pub refusal : Outcome → Port → Result
+refusal o p = record { outcome = o; port = p; measurement = MaybeMeasurement.None; sent = []; actions = []; reset = false }
+
+abbrev pub answered : Port → Worked Done → Result
+answered p (worked d) =
+    record { outcome = Outcome.Taken; port = d .port; measurement = d .measurement; sent = packet (d .message); actions = d .actions; reset = d .reset }
+answered p (refused o) = refusal o p
+
+-- ---- what a rule gives, made of its parts: nothing but the record, with or without a reset; timers; a message that is sent, its packet's action behind those of timers
+
+abbrev pub changed : Port → Bool → Done
+changed p reset = record { port = p; measurement = MaybeMeasurement.None; message = none; actions = []; reset = reset }
+
+abbrev pub timed : Port → List Action → Done
+timed p timers = record { port = p; measurement = MaybeMeasurement.None; message = none; actions = timers; reset = false }
+
+abbrev pub sending : Port → List Action → Message → Action → Done
+sending p timers m packetAction =
+    record { port = p; measurement = MaybeMeasurement.None; message = some m; actions = timers ++ (packetAction ∷ []); reset = false }
+
+-- nothing, not even to the record
+abbrev pub nothing : Port → Worked Done
+nothing p = worked (changed p false)
