@@ -34,3 +34,16 @@ pub mod ChangeLaws
 pub mod StateLaws
 pub mod StoredLaws
 pub mod FitnessLaws
+pub mod Ieee
+pub mod LinearLaws
+pub mod TakenLaws
+pub mod MeasuredLaws
+pub mod IeeeLaws
+pub mod PeerRunLaws
+pub mod IeeePeerLaws
+pub mod IeeeDelayLaws
+pub mod ResponderLaws
+pub mod Running
+pub mod Examples
+pub mod ExamplesPeer
+pub mod IeeeExamples
