@@ -4,12 +4,12 @@ use mathlib.Core.Bool.{Bool, true, false, cond, not, _||_}
 use mathlib.Core.List.{List, [], _∷_}
 use lib.IntN.{ℤ, _-ℤ_}
 use Rattle.rules.specs.Names.{Time, Duration, TimeAnswer, DurationAnswer, MaybeDuration, Outcome}
-use Rattle.time.specs.Units.{time, timeOf, inTime, duration, durationOf, inDuration, half, halfOf}
+use Rattle.time.specs.Units.{timeOf, inTime, duration, durationOf, inDuration, half, halfOf}
 use Rattle.time.specs.Laws.{IsTime, time-is, time-out-is, IsDuration, duration-is, duration-out-is, duration-back, half-is}
 use Rattle.rules.specs.Worked.{Worked, worked, refused, _then_, aTime, aDuration, less}
 use Rattle.rules.specs.Events.{Done}
 use Rattle.rules.specs.Measuring.{lessMean, halfBelow}
-use Rattle.rules.specs.WorkedOut.{Number, _∋_, times, durations, inRange, outside, ifThere}
+use Rattle.rules.specs.WorkedOut.{Number, _∋_, times, durations, outside, ifThere}
 use Rattle.rules.specs.Formulas.{GivenBy}
 
 abbrev pub Agrees : List Number → (Done → Type 0) → Worked Done → Type 0

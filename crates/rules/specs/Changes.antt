@@ -1,7 +1,7 @@
 -- What an event changes besides, said without the rules: the state, the filter's reset, the ids and the mean delay. It holds of events that are taken.
 use Prim.Native.Nat.{ℕ, _+_, _%_}
 use mathlib.Core.Bool.{Bool, true, false, cond, _&&_, _||_}
-use Rattle.rules.specs.Names.{Time, Header, Body, Mechanism, MaybeDuration, PortState, Ids, Port, NewState}
+use Rattle.rules.specs.Names.{Time, Header, Body, Mechanism, MaybeDuration, Ids, Port, NewState}
 use Rattle.wire.specs.Reading.{readOf}
 use Rattle.record.specs.Record.{stateNumber, isMaster, isFaulty, isSlave}
 use Rattle.rules.specs.Events.{Event, event, general, stamp, syncTimer, delayTimer, filterAnswer, setState}

@@ -5,9 +5,8 @@ use mathlib.Core.Bool.{Bool, true, false, cond, _&&_, not}
 use mathlib.Core.List.{[]}
 use lib.Dec.{eqb}
 use lib.IntN.{ℤ, _-ℤ_}
-use Rattle.rules.specs.Names.{Time, Header, Identity, MaybeTime, Exchange, SlaveState, PortState, Context, Port}
+use Rattle.rules.specs.Names.{Time, Header, Identity, MaybeTime, Exchange, SlaveState, Context, Port}
 use Rattle.time.specs.Units.{time, timeOf, correction}
-use Rattle.wire.specs.BytesLaws.{apart}
 use Rattle.record.specs.Record.{withSlave, withDelay}
 use Rattle.record.specs.Fit.{there, full, peerFull}
 use Rattle.record.specs.Same.{sameIdentity}

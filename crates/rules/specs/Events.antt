@@ -1,6 +1,6 @@
 -- What the port is told, and what it answers.
 use Prim.Native.Nat.{ℕ}
-use mathlib.Core.Bool.{Bool, true, false}
+use mathlib.Core.Bool.{Bool, false}
 use mathlib.Core.List.{List, [], _∷_, _++_}
 use mathlib.Core.Option.{Option, none, some}
 use Rattle.rules.specs.Names.{Time, Message, Port, Context, FilterUpdate, NewState, Outcome, MaybeMeasurement, Action}

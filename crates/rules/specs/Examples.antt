@@ -9,9 +9,10 @@ use Rattle.wire.specs.Layout.{headerEntries}
 use Rattle.wire.specs.Bytes.{bytesOf}
 use Rattle.sent.specs.Messages.{noFlag}
 use Rattle.record.specs.Record.{withState, withIds, withSlave, withSync, slaveOf}
-use Rattle.rules.specs.Names.{Duration, Body, Identity, Mechanism, PortState, Exchange, MaybeDuration, MaybeNanoseconds, Ids, Port, Context, NewState, Action, Outcome, Measurement}
+use Rattle.rules.specs.Names.{Time, Duration, Body, Identity, Mechanism, PortState, Exchange, MaybeDuration, MaybeNanoseconds, Ids, Port, Context, NewState, Action, Outcome, Measurement}
 use Rattle.rules.specs.Events.{Event, event, general, stamp, syncTimer, delayTimer, filterAnswer, setState}
 use Rattle.rules.specs.Exchanges.{received, sentAt}
+use Rattle.rules.specs.Step.{step}
 use Rattle.rules.specs.Running.{runOf, lines, quiet, measures, refuses, leftBy, todos, resetsIn, idsSent, us, master, stranger, ns, lasting, setUp, slave, message, wireNs, twoStepSyncOf, oneStepSyncOf, followUpAt, minusOne}
 
 -- ---- the marked ones
@@ -149,3 +150,26 @@ announce domain =
 pub hosts-or-foreign : lines (runOf (slave 0) (general (announce 0x21) ∷ event (ns 1000) (announce 0x20) ∷ [])) ≡ refuses Outcome.Host ∷ refuses Outcome.Foreign ∷ []
 unfolding runOf
 hosts-or-foreign = refl
+
+-- rows 1 to 4 in their order: a buffer of 63 bytes is too short even for an event that sends nothing, and 64 are enough; an unfit record is found before a time out of limits, that before a message without a version; the largest time and draw are taken
+abbrev tooLate : Time
+tooLate = timeWords (pos (2 ^ 127))
+
+abbrev unfitPort : Port
+unfitPort = withSlave (slave 0) (withSync (slaveOf master) (received 7 tooLate))
+
+abbrev outcomeIn : ℕ → Port → Event → Outcome
+outcomeIn room p e = step p room e .outcome
+
+pub rows-in-order : (outcomeIn 63 unfitPort (event tooLate []) ≡ Outcome.Buffer) × (outcomeIn 64 unfitPort (event tooLate []) ≡ Outcome.Unfit) × (outcomeIn 64 (slave 0) (event tooLate []) ≡ Outcome.Limits) × (outcomeIn 64 (slave 0) (event (ns 0) []) ≡ Outcome.Version) × (outcomeIn 63 (slave 0) (setState NewState.Passive) ≡ Outcome.Buffer)
+unfolding runOf
+rows-in-order = (refl, refl, refl, refl, refl)
+
+pub limits-on-events : lines (runOf (slave 0) (stamp tooLate (Context.Sync 0) ∷ delayTimer (2 ^ 52) ∷ stamp (timeWords (pos (2 ^ 127 - 1))) (Context.Sync 0) ∷ delayTimer (2 ^ 52 - 1) ∷ [])) ≡ refuses Outcome.Limits ∷ refuses Outcome.Limits ∷ quiet ∷ quiet ∷ []
+unfolding runOf
+limits-on-events = refl
+
+-- row 5; and a Sync on the general entry is taken and does nothing
+pub header-cut-short : lines (runOf (slave 0) (general (0 ∷ 2 ∷ []) ∷ general (twoStepSyncOf 7) ∷ [])) ≡ refuses Outcome.Malformed ∷ quiet ∷ []
+unfolding runOf
+header-cut-short = refl

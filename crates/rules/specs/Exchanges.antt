@@ -1,6 +1,6 @@
 -- Document 01, 'What each event does': what a message or a stamp does to its exchange.
 use Prim.Native.Nat.{ℕ}
-use mathlib.Core.Bool.{Bool, true, false, cond, _&&_, not}
+use mathlib.Core.Bool.{Bool, false, cond, _&&_, not}
 use lib.Dec.{eqb}
 use Rattle.rules.specs.Names.{Time, Identity, Header, MaybeTime, MaybeIdentity, Exchange, PeerState}
 use Rattle.wire.specs.Layout.{twoStep}

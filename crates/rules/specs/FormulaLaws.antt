@@ -1,18 +1,16 @@
 -- Every measurement is 01's formula, and each exchange that is completed is measured: for a taken event, what is answered says of the exchange that the event completes what 01 says of it.
 use Prim.Native.Nat.{ℕ}
-use mathlib.Core.Path.{_≡_, refl, sym, _∙_, ap, subst}
-use mathlib.Core.Bool.{Bool, true, false, cond}
-use mathlib.Core.List.{List}
+use mathlib.Core.Path.{_≡_}
 use Rattle.rules.specs.Names.{Time, Header, Body, Reading, Port, Outcome}
 use Rattle.wire.specs.Reading.{readOf}
 use Rattle.rules.specs.Worked.{Worked, worked, refused}
 use Rattle.rules.specs.Events.{Event, event, general, stamp, syncTimer, delayTimer, filterAnswer, setState, Done}
 use Rattle.rules.specs.Rules.{onEvent, onGeneral, stamped, filtered, stateSet}
 use Rattle.rules.specs.Table.{ours}
-use Rattle.rules.specs.WorkedOut.{Number, Sums, noSums, none, numbersOf, ofReading, eventSums, laterSums, stampSums, sumsOf}
+use Rattle.rules.specs.WorkedOut.{Sums, noSums, none, ofReading, eventSums, laterSums, stampSums, sumsOf}
 use Rattle.rules.specs.Step.{viewed, ruleOf, step}
 use Rattle.rules.specs.Formulas.{Says}
-use Rattle.rules.specs.AgreeLaws.{Agrees, by-test}
+use Rattle.rules.specs.AgreeLaws.{by-test}
 use Rattle.rules.specs.MeasureLaws.{SumsJudged}
 use Rattle.rules.specs.SumsLaws.{Open, fit-open, event-judged, later-judged, stamp-judged}
 use Rattle.rules.specs.AllLaws.{All, Silent}

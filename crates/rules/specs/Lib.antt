@@ -11,6 +11,7 @@ pub mod Table
 pub mod Formulas
 pub mod Changes
 pub mod Actions
+pub mod Sending
 pub mod Given
 pub mod AgreeLaws
 pub mod MeasureLaws
@@ -34,6 +35,8 @@ pub mod ChangeLaws
 pub mod StateLaws
 pub mod StoredLaws
 pub mod FitnessLaws
+pub mod DueLaws
+pub mod SendingLaws
 pub mod Ieee
 pub mod LinearLaws
 pub mod TakenLaws

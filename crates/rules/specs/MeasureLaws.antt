@@ -1,18 +1,17 @@
 -- Each measurement beside 01's formula: refused with 7 exactly where a number of the formula leaves its range, and otherwise what the formula says.
 use Prim.Native.Nat.{ℕ}
-use mathlib.Core.Path.{_≡_, refl, sym, _∙_, ap, subst}
+use mathlib.Core.Path.{_≡_, refl, ap}
 use mathlib.Core.Bool.{true, false}
-use mathlib.Core.List.{List, [], _∷_, _++_}
+use mathlib.Core.List.{_++_}
 use lib.IntN.{ℤ, _-ℤ_}
-use Rattle.rules.specs.Names.{Time, Duration, Identity, MaybeDuration, Exchange, SlaveState, PortState, PeerState, Port, Measurement}
-use Rattle.time.specs.Units.{time, duration, half, halfOf}
-use Rattle.time.specs.Laws.{IsDuration}
-use Rattle.record.specs.Record.{withSlave, withState, withSync, withDelay, withRaw, withPeer, isFaulty}
-use Rattle.rules.specs.Worked.{Worked, worked, _then_, between, less}
+use Rattle.rules.specs.Names.{Time, Identity, Exchange, SlaveState, PeerState, Port, Measurement}
+use Rattle.time.specs.Units.{time, duration}
+use Rattle.record.specs.Record.{withSlave, withSync, withDelay, withRaw, withPeer}
+use Rattle.rules.specs.Worked.{Worked, between, less}
 use Rattle.rules.specs.Events.{Done}
-use Rattle.rules.specs.Measuring.{lessMean, halfBelow, measuring, measureSync, measureDelay, measurePeer, recovered}
-use Rattle.rules.specs.WorkedOut.{Completed, Sums, sync, delay, peer, rawSync, rawDelay, peerTwice, peerOpened, lastRaw, numbersOf, asymmetry, _∋_, durations, ifThere}
-use Rattle.rules.specs.Formulas.{Says, SyncSays, DelaySays, PeerSays, GivenBy}
+use Rattle.rules.specs.Measuring.{measuring, measureSync, measureDelay, measurePeer}
+use Rattle.rules.specs.WorkedOut.{Completed, Sums, sync, delay, peer, rawSync, rawDelay, peerOpened, numbersOf, asymmetry}
+use Rattle.rules.specs.Formulas.{Says}
 use Rattle.rules.specs.AgreeLaws.{Agrees, agrees-duration, agrees-mean, agrees-half, half-means}
 
 -- what is done about an exchange is as 01 says it

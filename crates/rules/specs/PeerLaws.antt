@@ -6,19 +6,19 @@ use mathlib.Core.List.{[]}
 use lib.Dec.{eqb}
 use borrow.Author.Tests.{eq-eqb}
 use lib.IntN.{ℤ, _+ℤ_, _-ℤ_}
-use Rattle.rules.specs.Names.{Time, Header, Identity, MaybeTime, MaybeIdentity, PeerState, PortState, Context, Port}
+use Rattle.rules.specs.Names.{Time, Header, Identity, MaybeTime, MaybeIdentity, PeerState, Context, Port}
 use Rattle.time.specs.Units.{time, timeOf, correction}
 use Rattle.wire.specs.Layout.{twoStep}
 use Rattle.wire.specs.BytesLaws.{apart}
 use Rattle.record.specs.Record.{withPeer}
-use Rattle.record.specs.Fit.{there, unanswered, peerFull}
+use Rattle.record.specs.Fit.{unanswered}
 use Rattle.record.specs.Same.{sameIdentity}
 use Rattle.rules.specs.Worked.{Worked, worked, _then_, lessCorrection, plusCorrection, aTime}
 use Rattle.rules.specs.Events.{Done, nothing}
 use Rattle.rules.specs.Measuring.{peerComplete, measurePeer}
 use Rattle.rules.specs.Exchanges.{Change, stays, becomes, peerStamped, secondResponder, responded, respondedLater}
 use Rattle.rules.specs.Rules.{kept, becomesFaulty, peerAnswer, pDelayResp, pDelayRespFollowUp, stamped}
-use Rattle.rules.specs.WorkedOut.{Completed, none, peer, peerOpened, requestSendIn, requestReceiveIn, responseSendIn, responseReceiveIn, held, Sums, corrected, noSums, numbersOf, differs, answeredBy, second, pDelayRespSums, pDelayRespFollowUpSums, stampSums}
+use Rattle.rules.specs.WorkedOut.{Completed, peer, peerOpened, held, Sums, corrected, noSums, numbersOf, differs, answeredBy, second, pDelayRespSums, pDelayRespFollowUpSums, stampSums}
 use Rattle.rules.specs.AgreeLaws.{by-test, agrees-time, then-then}
 use Rattle.rules.specs.MeasureLaws.{Judged, SumsJudged, peer-judged}
 use Rattle.rules.specs.SettleLaws.{slaveFull, settle-peer}

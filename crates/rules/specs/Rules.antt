@@ -1,6 +1,6 @@
 -- Document 01, 'What each event does', in its order, on decoded messages: a header, a body's parts, and the time that its timestamp means.
 use Prim.Native.Nat.{ℕ}
-use mathlib.Core.Bool.{Bool, true, false, cond, _||_}
+use mathlib.Core.Bool.{true, false, cond, _||_}
 use mathlib.Core.List.{List, [], _∷_}
 use Rattle.rules.specs.Names.{Body, Time, Identity, Header, Sender, SlaveState, PortState, PeerState, Mechanism, Config, Ids, Port, Context, NewState, MaybeDuration, MaybeNanoseconds, FilterUpdate, Action}
 use Rattle.time.specs.Timers.{syncTimerOf, delayTimerOf}

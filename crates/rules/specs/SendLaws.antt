@@ -1,5 +1,5 @@
 -- The messages that carry a stamp beside their sent fields: nothing is made exactly where the seconds leave 48 bits or the correction 64.
-use Prim.Native.Nat.{ℕ, _-_, _*_, _/_, _^_, _<_, _≤_}
+use Prim.Native.Nat.{ℕ, _-_, _/_, _^_, _<_, _≤_}
 use mathlib.Core.Path.{_≡_, refl, sym, _∙_, ap}
 use mathlib.Core.Bool.{Bool, true, false, false≢true, cond, not, _||_}
 use mathlib.Core.Logic.{_⊎_, inl, inr}
@@ -9,7 +9,7 @@ use native.Mathlib.Decide.{decLt}
 use lib.Dec.{ltb, leb·zero, leb·suc-suc}
 use lib.IntN.{pos}
 use borrow.Author.Tests.{lt-ltb, le-ltb}
-use Rattle.rules.specs.Names.{Time, WireTimestamp, Identity, Header, Message, Port, Action, Context, PortState}
+use Rattle.rules.specs.Names.{Time, WireTimestamp, Identity, Header, Message, Port, Action, Context}
 use Rattle.time.specs.Units.{time}
 use Rattle.time.specs.Lemmas.Integers.{not-below}
 use Rattle.sent.specs.declared.Carried.{Carried}
@@ -17,10 +17,10 @@ use Rattle.sent.specs.Messages.{inCorrection, followStamp, answerStamp, carryin
 use Rattle.sent.specs.CarriedLaws.{unitsOf, lateFrom, lessOf, follow-out-when, follow-out-is, answer-out-when, answer-out-is}
 use Rattle.wire.specs.BytesLaws.{apart}
 use Rattle.record.specs.Record.{isMaster}
-use Rattle.rules.specs.Worked.{Worked, worked, _then_, aMessage}
-use Rattle.rules.specs.Events.{Done, sending}
-use Rattle.rules.specs.Rules.{senderOf, delayReq, pDelayReq, stamped}
-use Rattle.rules.specs.WorkedOut.{Number, _∋_, seconds, corrections, inRange, outside, secondsOf, lessF, sentFields, noSums, stampSums}
+use Rattle.rules.specs.Worked.{worked, _then_, aMessage}
+use Rattle.rules.specs.Events.{sending}
+use Rattle.rules.specs.Rules.{delayReq, pDelayReq, stamped}
+use Rattle.rules.specs.WorkedOut.{Number, seconds, inRange, outside, secondsOf, lessF, sentFields, noSums, stampSums}
 use Rattle.rules.specs.AgreeLaws.{by-test}
 use Rattle.rules.specs.MeasureLaws.{SumsJudged}
 

@@ -1,8 +1,8 @@
 -- What is settled after an exchange was stored: that exchange alone, since a fit record has no other that is complete.
 use Prim.Native.Nat.{ℕ}
-use mathlib.Core.Path.{_≡_, refl, sym, _∙_, ap}
-use mathlib.Core.Bool.{Bool, true, false, _||_, _&&_}
-use Rattle.rules.specs.Names.{Time, Identity, MaybeTime, MaybeIdentity, Exchange, SlaveState, PortState, PeerState, Port}
+use mathlib.Core.Path.{_≡_, refl, _∙_, ap}
+use mathlib.Core.Bool.{Bool, false, _||_, _&&_}
+use Rattle.rules.specs.Names.{Time, Identity, MaybeTime, Exchange, SlaveState, PortState, PeerState, Port}
 use Rattle.record.specs.Record.{asSlave, withSlave, withSync, withDelay, withPeer}
 use Rattle.record.specs.Fit.{full, peerFull, there}
 use Rattle.wire.specs.BytesLaws.{neither, apart}

@@ -1,11 +1,10 @@
 -- The port as one function: the table in its order, then the event's rule. The least buffer comes first; ℕ is the buffer's length.
 use Prim.Native.Nat.{ℕ}
 use mathlib.Core.Bool.{Bool, cond}
-use mathlib.Core.List.{List}
 use Rattle.rules.specs.Names.{Reading, Time, Header, Body, Port, Config, Outcome}
 use Rattle.wire.specs.Reading.{readOf}
 use Rattle.record.specs.Fit.{unfit}
-use Rattle.rules.specs.Worked.{Worked, worked, refused, _then_}
+use Rattle.rules.specs.Worked.{Worked, refused}
 use Rattle.rules.specs.Events.{Event, event, general, stamp, syncTimer, delayTimer, filterAnswer, setState, Done, Result, answered}
 use Rattle.rules.specs.Table.{row1, row3, ours}
 use Rattle.rules.specs.Rules.{onEvent, onGeneral, stamped, syncTimerEnds, delayTimerEnds, filtered, stateSet}

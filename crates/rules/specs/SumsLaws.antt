@@ -4,15 +4,15 @@ use mathlib.Core.Path.{_≡_, refl}
 use mathlib.Core.Bool.{Bool, true, false, cond, _&&_, _||_}
 use mathlib.Core.List.{_++_}
 use lib.IntN.{ℤ, _+ℤ_, _-ℤ_}
-use Rattle.rules.specs.Names.{Time, Identity, Header, Body, SlaveState, PortState, PeerState, Context, Port}
+use Rattle.rules.specs.Names.{Time, Identity, Header, Body, PortState, Context, Port}
 use Rattle.time.specs.Units.{time, correction}
 use Rattle.wire.specs.BytesLaws.{neither}
-use Rattle.record.specs.Record.{asSlave, withState, withPeer}
+use Rattle.record.specs.Record.{asSlave, withState}
 use Rattle.record.specs.Fit.{unfit, timeless, full, unanswered, peerFull, anyOut, slaveTimes, peerTimes, configOut}
 use Rattle.record.specs.Same.{sameIdentity}
 use Rattle.rules.specs.Events.{nothing}
-use Rattle.rules.specs.Rules.{sync, followUp, delayResp, pDelayResp, pDelayRespFollowUp, delayReq, pDelayReq, stamped, onEvent, onGeneral}
-use Rattle.rules.specs.WorkedOut.{Sums, noSums, syncSums, followUpSums, delayRespSums, pDelayRespSums, pDelayRespFollowUpSums, stampSums, eventSums, laterSums}
+use Rattle.rules.specs.Rules.{sync, followUp, delayResp, stamped, onEvent, onGeneral}
+use Rattle.rules.specs.WorkedOut.{Sums, noSums, syncSums, followUpSums, delayRespSums, stampSums, eventSums, laterSums}
 use Rattle.rules.specs.MeasureLaws.{SumsJudged}
 use Rattle.rules.specs.SettleLaws.{slaveFull}
 use Rattle.rules.specs.SyncLaws.{sync-sums, follow-up-sums}

@@ -1,22 +1,20 @@
 -- Sync and FollowUp beside the numbers of `WorkedOut`: a rule refuses with 7 exactly where one leaves its range, and measures exactly what it completes.
 use Prim.Native.Nat.{ℕ}
-use mathlib.Core.Path.{_≡_, refl, sym, _∙_, ap, subst}
-use mathlib.Core.Bool.{Bool, true, false, cond, _&&_, not}
-use mathlib.Core.List.{[]}
+use mathlib.Core.Path.{_≡_, refl, sym, subst}
+use mathlib.Core.Bool.{Bool, false, cond, _&&_, not}
 use lib.Dec.{eqb}
 use lib.IntN.{ℤ, _+ℤ_, _-ℤ_}
-use Rattle.rules.specs.Names.{Time, Header, MaybeTime, Exchange, SlaveState, PortState, Port}
+use Rattle.rules.specs.Names.{Time, Header, MaybeTime, Exchange, SlaveState, Port}
 use Rattle.time.specs.Units.{time, correction}
-use Rattle.time.specs.Laws.{IsTime}
 use Rattle.wire.specs.Layout.{twoStep}
 use Rattle.wire.specs.BytesLaws.{apart}
 use Rattle.record.specs.Record.{withSlave, withSync}
 use Rattle.record.specs.Fit.{there, full, timeless, peerFull}
 use Rattle.record.specs.Same.{sameIdentity}
-use Rattle.rules.specs.Worked.{Worked, lessCorrection, plusCorrection}
-use Rattle.rules.specs.Events.{Done, nothing}
+use Rattle.rules.specs.Worked.{lessCorrection, plusCorrection}
+use Rattle.rules.specs.Events.{nothing}
 use Rattle.rules.specs.Measuring.{complete, measureSync}
-use Rattle.rules.specs.Exchanges.{Change, stays, becomes, received, atOnce, sentAt, twoStepSync, oneStepSync, synced, followedUp}
+use Rattle.rules.specs.Exchanges.{stays, becomes, received, atOnce, sentAt, twoStepSync, oneStepSync, synced, followedUp}
 use Rattle.rules.specs.Rules.{kept}
 use Rattle.rules.specs.Rules as Rules
 use Rattle.rules.specs.WorkedOut.{Completed, none, sync, opened, receiveIn, sendIn, held, noSums, corrected, numbersOf, syncSums, followUpSums}

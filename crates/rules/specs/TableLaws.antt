@@ -1,7 +1,7 @@
 -- Demand 1, first part: each number is answered exactly under its condition, for every record, buffer and event, and for any bytes.
 use Prim.Native.Nat.{ℕ}
 use mathlib.Core.Path.{_≡_, refl, sym, _∙_, ap, subst}
-use mathlib.Core.Bool.{Bool, true, false, cond, not, _||_, false≢true}
+use mathlib.Core.Bool.{Bool, true, false, cond, not, false≢true}
 use mathlib.Core.List.{List, [], _∷_, _++_}
 use borrow.Author.Tests.{not-false}
 use Rattle.rules.specs.Names.{Time, Header, Body, Reading, Kind, TimerAnswer, Mechanism, SlaveState, PortState, Port, Outcome}
@@ -9,7 +9,6 @@ use Rattle.time.specs.Units.{timeWords, wire}
 use Rattle.time.specs.Timers.{inDraw, delayTimerOf}
 use Rattle.time.specs.TimerLaws.{sync-in, delay-in}
 use Rattle.wire.specs.Bytes.{Bytes}
-use Rattle.wire.specs.BytesLaws.{neither, apart}
 use Rattle.wire.specs.Layout.{headerOf, bodyOf, timestampAt, body}
 use Rattle.wire.specs.Reading as Wire
 use Rattle.wire.specs.ReadingLaws.{version-when, malformed-when, host-when, message-of-bytes, past-row5}
@@ -25,7 +24,7 @@ use Rattle.rules.specs.Step.{unless, viewed, ruleOf, step}
 use Rattle.rules.specs.Given.{BytesIn}
 use Rattle.rules.specs.AgreeLaws.{Agrees, by-test}
 use Rattle.rules.specs.MeasureLaws.{SumsJudged}
-use Rattle.rules.specs.SumsLaws.{Open, fit-open, event-judged, later-judged, stamp-judged}
+use Rattle.rules.specs.SumsLaws.{fit-open, event-judged, later-judged, stamp-judged}
 
 abbrev pub outcomeOf : Worked Done → Outcome
 outcomeOf (worked d) = Outcome.Taken

@@ -1,6 +1,6 @@
 -- Row 7, and what is measured, said without the rules: the numbers that document 01 has worked out for an event, each in its own range, and the exchange that the event completes. Times are numbers of units in ℤ, so nothing here can refuse.
 use Prim.Native.Nat.{ℕ, _-_, _/_, _%_, _^_}
-use mathlib.Core.Bool.{Bool, true, false, cond, _&&_, _||_, not}
+use mathlib.Core.Bool.{Bool, false, cond, _&&_, _||_, not}
 use mathlib.Core.List.{List, [], _∷_, _++_}
 use lib.Dec.{eqb}
 use lib.IntN.{ℤ, pos, natAbs, _+ℤ_, _-ℤ_}
