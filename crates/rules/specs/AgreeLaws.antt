@@ -11,10 +11,16 @@ use Rattle.rules.specs.Events.{Done}
 use Rattle.rules.specs.Measuring.{lessMean, halfBelow}
 use Rattle.rules.specs.WorkedOut.{Number, _∋_, times, durations, outside, ifThere}
 use Rattle.rules.specs.Formulas.{GivenBy}
+use Rattle.rules.specs.AllLaws.{All}
 
 abbrev pub Agrees : List Number → (Done → Type 0) → Worked Done → Type 0
 Agrees ns Says (worked d) = (outside ns ≡ false) × Says d
 Agrees ns Says (refused o) = (o ≡ Outcome.Range) × (outside ns ≡ true)
+
+-- what is worked out says it
+pub agrees-all : (ns : List Number) (Says : Done → Type 0) (w : Worked Done) → Agrees ns Says w → All Says w
+agrees-all ns Says (worked d) a = a .1
+agrees-all ns Says (refused o) a = tt
 
 -- a rule that goes by a test, beside something else that goes by the same one
 pub by-test : {A : Type 0} (P : Bool → A → Type 0) (t : Bool) (a b : A) → P true a → P false b → P t (cond t a b)

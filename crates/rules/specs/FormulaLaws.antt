@@ -1,16 +1,17 @@
 -- Every measurement is 01's formula, and each exchange that is completed is measured: for a taken event, what is answered says of the exchange that the event completes what 01 says of it.
 use Prim.Native.Nat.{ℕ}
 use mathlib.Core.Path.{_≡_}
+use mathlib.Core.List.{_++_}
 use Rattle.rules.specs.Names.{Time, Header, Body, Reading, Port, Outcome}
 use Rattle.wire.specs.Reading.{readOf}
-use Rattle.rules.specs.Worked.{Worked, worked, refused}
+use Rattle.rules.specs.Worked.{Worked, refused}
 use Rattle.rules.specs.Events.{Event, event, general, stamp, syncTimer, delayTimer, filterAnswer, setState, Done}
 use Rattle.rules.specs.Rules.{onEvent, onGeneral, stamped, filtered, stateSet}
 use Rattle.rules.specs.Table.{ours}
-use Rattle.rules.specs.WorkedOut.{Sums, noSums, none, ofReading, eventSums, laterSums, stampSums, sumsOf}
+use Rattle.rules.specs.WorkedOut.{Sums, noSums, none, numbersOf, ofReading, eventSums, laterSums, stampSums, sumsOf}
 use Rattle.rules.specs.Step.{viewed, ruleOf, step}
 use Rattle.rules.specs.Formulas.{Says}
-use Rattle.rules.specs.AgreeLaws.{by-test}
+use Rattle.rules.specs.AgreeLaws.{by-test, agrees-all}
 use Rattle.rules.specs.MeasureLaws.{SumsJudged}
 use Rattle.rules.specs.SumsLaws.{Open, fit-open, event-judged, later-judged, stamp-judged}
 use Rattle.rules.specs.AllLaws.{All, Silent}
@@ -23,8 +24,7 @@ module _ (p : Port) where
   Said s w = All (λ d. Says p (s .completes) (d .measurement) (d .port)) w
 
   agreed : (s : Sums) (w : Worked Done) → SumsJudged p s w → Said s w
-  agreed s (worked d) a = a .1
-  agreed s (refused o) a = tt
+  agreed s w a = agrees-all (s .numbers ++ numbersOf p (s .completes)) _ w a
 
   read-said : (sums : Header → Body → Time → Sums) (rule : Header → Body → Time → Worked Done) → ((h : Header) (b : Body) (t : Time) → SumsJudged p (sums h b t) (rule h b t)) → (r : Reading) → Said (ofReading noSums sums r) (viewed (p .config) r rule)
   read-said sums rule judged (Reading.Message h b t) =

@@ -2,71 +2,31 @@
 use Prim.Native.Nat.{ℕ}
 use mathlib.Core.Path.{_≡_, refl, sym, ap, _∙_, subst}
 use mathlib.Core.Bool.{true, false}
-use mathlib.Core.List.{List, [], _∷_}
+use mathlib.Core.List.{List}
 use native.Mathlib.Omega.{arith}
 use lib.IntN.{ℤ, _+ℤ_, _-ℤ_}
 use Rattle.time.specs.declared.WireTimestamp.{WireTimestamp}
 use Rattle.time.specs.Units.{time, duration, wire, correction, half}
-use Rattle.time.specs.Timers.{delayTimerOf}
 use Rattle.wire.specs.Layout as Layout
 use Rattle.wire.specs.Reading.{readOf}
 use Rattle.wire.specs.BytesLaws.{apart}
-use Rattle.sent.specs.Messages.{pDelayReqOf}
 use Rattle.record.specs.Record.{withState, withPeer, withIds}
-use Rattle.record.specs.Fit.{peerFull}
-use Rattle.rules.specs.Names.{Time, TimerAnswer, Duration, Identity, Header, Body, Reading, MaybeTime, MaybeIdentity, Mechanism, PeerState, Port, Context, Action, Outcome, Measurement, MaybeMeasurement}
-use Rattle.rules.specs.Worked.{Worked, worked, _then_, aTimer}
-use Rattle.rules.specs.Events.{Event, event, stamp, delayTimer, Done, Result, answered, sending}
-use Rattle.rules.specs.Measuring.{recovered, settle}
+use Rattle.rules.specs.Names.{Time, Duration, Identity, Header, Body, Reading, MaybeTime, MaybeIdentity, Mechanism, PeerState, Port, Context, Measurement, MaybeMeasurement}
+use Rattle.rules.specs.Worked.{worked}
+use Rattle.rules.specs.Events.{Event, event, stamp, delayTimer, Result, answered}
+use Rattle.rules.specs.Measuring.{recovered}
 use Rattle.rules.specs.Exchanges.{peerRequested}
-use Rattle.rules.specs.Rules.{senderOf, peerIdTaken, request, delayTimerEnds}
+use Rattle.rules.specs.Rules.{peerIdTaken}
 use Rattle.rules.specs.Step.{ruleOf, step}
+use Rattle.rules.specs.AllLaws.{All, Silent}
+use Rattle.rules.specs.RuleLaws.{peerOut, all-delayTimerEnds}
+use Rattle.rules.specs.RefusalLaws.{taken-has}
 use Rattle.rules.specs.LinearLaws.{num, _⊕_, _⊖_, equal-sums}
 use Rattle.rules.specs.Ieee.{WireFields, Pdelays, meanLinkDelay}
-use Rattle.rules.specs.TakenLaws.{Refuses, Went, went, Ruled, ruled, ruled-as, Brings, wire-time, brought-time}
+use Rattle.rules.specs.TakenLaws.{Brings, wire-time, brought-time}
+use Rattle.rules.specs.RunLaws.{Taken, BothOrders, AllOrders, peerPart, after-two, after-three}
 use Rattle.rules.specs.IeeeLaws.{wireFields}
-use Rattle.rules.specs.PeerRunLaws.{TurnedInto, Turns, turned-open, turned-closed, MeasuresHalf, stamp-turns, response-turns, follow-up-turns}
-
--- ---- runs of two and of three events, all Taken
-
-abbrev pub Taken : Result → Type 0
-Taken r = r .outcome ≡ Outcome.Taken
-
-abbrev pub AfterTwo : Port → Event → Event → (Result → Type 0) → Type 0
-AfterTwo q e₁ e₂ Goal =
-    (room₁ room₂ : ℕ) → Taken (step q room₁ e₁) → Taken (step (step q room₁ e₁ .port) room₂ e₂) → Goal (step (step q room₁ e₁ .port) room₂ e₂)
-
-abbrev pub AfterThree : Port → Event → Event → Event → (Result → Type 0) → Type 0
-AfterThree q e₁ e₂ e₃ Goal =
-    (room : ℕ) → Taken (step q room e₁) → AfterTwo (step q room e₁ .port) e₂ e₃ Goal
-
--- in both orders, and in all six
-pub record BothOrders (q : Port) (a b : Event) (Goal : Result → Type 0) : Type 0 where
-  pub ab : AfterTwo q a b Goal
-  pub ba : AfterTwo q b a Goal
-
-pub record AllOrders (q : Port) (a b c : Event) (Goal : Result → Type 0) : Type 0 where
-  pub abc : AfterThree q a b c Goal
-  pub acb : AfterThree q a c b Goal
-  pub bac : AfterThree q b a c Goal
-  pub bca : AfterThree q b c a Goal
-  pub cab : AfterThree q c a b Goal
-  pub cba : AfterThree q c b a Goal
-
-module _ (p : Port) (Goal : Result → Type 0) where
-  pub after-two : (q : PeerState) (e₁ e₂ : Event) (z₁ z₂ : ℤ) (new₁ : Time → PeerState) (new₂ : Time → Time → PeerState) → Turns p e₁ q z₁ new₁ → ((t : Time) → Turns p e₂ (new₁ t) z₂ (new₂ t)) → ((t : Time) → peerFull (new₁ t) ≡ false) → ((t u : Time) → time t ≡ z₁ → time u ≡ z₂ → (room : ℕ) → Ruled (withPeer p (new₁ t)) room e₂ (settle (withPeer p (new₂ t u))) → Goal (step (withPeer p (new₁ t)) room e₂)) → AfterTwo (withPeer p q) e₁ e₂ Goal
-  after-two q e₁ e₂ z₁ z₂ new₁ new₂ first second open₁ end room₁ room₂ k₁ =
-      let w : TurnedInto p q room₁ e₁ z₁ new₁ = first room₁ k₁ in
-      subst (λ (x : Port). Taken (step x room₂ e₂) → Goal (step x room₂ e₂)) (sym (turned-open p q room₁ e₁ z₁ new₁ open₁ w))
-      (λ k₂.
-      let v : TurnedInto p (new₁ (w .at)) room₂ e₂ z₂ (new₂ (w .at)) = second (w .at) room₂ k₂ in
-      end (w .at) (v .at) (w .worth) (v .worth) room₂ (v .is-ruled))
-
-  after-three : (q : PeerState) (e₁ e₂ e₃ : Event) (z₁ z₂ z₃ : ℤ) (new₁ : Time → PeerState) (new₂ : Time → Time → PeerState) (new₃ : Time → Time → Time → PeerState) → Turns p e₁ q z₁ new₁ → ((t : Time) → Turns p e₂ (new₁ t) z₂ (new₂ t)) → ((t u : Time) → Turns p e₃ (new₂ t u) z₃ (new₃ t u)) → ((t : Time) → peerFull (new₁ t) ≡ false) → ((t u : Time) → peerFull (new₂ t u) ≡ false) → ((t u v : Time) → time t ≡ z₁ → time u ≡ z₂ → time v ≡ z₃ → (room : ℕ) → Ruled (withPeer p (new₂ t u)) room e₃ (settle (withPeer p (new₃ t u v))) → Goal (step (withPeer p (new₂ t u)) room e₃)) → AfterThree (withPeer p q) e₁ e₂ e₃ Goal
-  after-three q e₁ e₂ e₃ z₁ z₂ z₃ new₁ new₂ new₃ first second third open₁ open₂ end room k₁ =
-      let w : TurnedInto p q room e₁ z₁ new₁ = first room k₁ in
-      subst (λ (x : Port). AfterTwo x e₂ e₃ Goal) (sym (turned-open p q room e₁ z₁ new₁ open₁ w))
-      (after-two (new₁ (w .at)) e₂ e₃ z₂ z₃ (new₂ (w .at)) (new₃ (w .at)) (second (w .at)) (third (w .at)) (open₂ (w .at)) (λ u v. end (w .at) u v (w .worth)))
+use Rattle.rules.specs.PeerRunLaws.{stamp-turns, response-turns, follow-up-turns, complete-has}
 
 -- ---- what is measured
 
@@ -102,35 +62,23 @@ one-step-link a r t1 t4 =
 
 -- a complete exchange measures it
 module _ (p : Port) (id : ℕ) (responder : Identity) (m : Pdelays) (t1 t4 : ℤ) (z₂ z₃ : ℤ) (sum : half (((t4 -ℤ correction (response m .correctionField)) -ℤ t1) -ℤ (z₃ -ℤ z₂)) ≡ meanLinkDelay (duration (p .config .asymmetry)) m t1 t4) where
-  ends : (q : PeerState) (e : Event) (i : Identity) (a b c d : Time) → i ≡ responder → time a ≡ t1 → time b ≡ z₂ → time c ≡ z₃ → time d ≡ t4 -ℤ correction (response m .correctionField) → (room : ℕ) → Ruled (withPeer p q) room e (settle (withPeer p (PeerState.Measuring id (MaybeIdentity.Some i) (MaybeTime.Some a) (MaybeTime.Some b) (MaybeTime.Some c) (MaybeTime.Some d)))) → MeasuresLinkDelay p id responder m t1 t4 (step (withPeer p q) room e)
-  ends q e i a b c d same ea eb ec ed room r =
-      let x : MeasuresHalf p (step (withPeer p q) room e) id i d ((time d -ℤ time a) -ℤ (time c -ℤ time b)) = turned-closed p q room e id i a b c d r in
+  ends : (i : Identity) (a b c d : Time) → i ≡ responder → time a ≡ t1 → time b ≡ z₂ → time c ≡ z₃ → time d ≡ t4 -ℤ correction (response m .correctionField) → All (λ r. MeasuresLinkDelay p id responder m t1 t4 (answered p (worked r))) (peerPart p .measure (PeerState.Measuring id (MaybeIdentity.Some i) (MaybeTime.Some a) (MaybeTime.Some b) (MaybeTime.Some c) (MaybeTime.Some d)))
+  ends i a b c d same ea eb ec ed =
+      complete-has p id i a b c d (MeasuresLinkDelay p id responder m t1 t4) (λ delay g.
       record {
         eventTime = d;
-        delay = x .delay;
-        measurement = x .measurement;
+        delay = delay;
+        measurement = refl;
         event-time-is = ed;
-        delay-is = x .delay-is ∙ (λ j. half ((ed j -ℤ ea j) -ℤ (ec j -ℤ eb j))) ∙ sum;
-        port = x .port ∙ ap (λ (y : Identity). withState (withPeer p (PeerState.Measured id y)) (recovered (p .state))) same;
-      }
+        delay-is = g ∙ (λ j. half ((ed j -ℤ ea j) -ℤ (ec j -ℤ eb j))) ∙ sum;
+        port = ap (peerOut p id) same;
+      })
 
 -- ---- the orders, from the exchange that a request leaves
 
 module _ (p : Port) (id : ℕ) (t1 t4 : Time) (message : List ℕ) (hr : Header) (wr : WireTimestamp) (requester : Identity) (tr : Time) (reads : readOf message ≡ Reading.Message hr (Body.PDelayResp wr requester) tr) (id-r : hr .id ≡ id) (ours : p .config .identity ≡ requester) where
-  abbrev stamped-at : Event
-  stamped-at = stamp t1 (Context.PDelayReq id)
-
-  abbrev answered-at : Event
-  answered-at = event t4 message
-
-  abbrev asked : Port
-  asked = withPeer p (peerRequested id)
-
-  z₄ : ℤ
-  z₄ = time t4 -ℤ correction (hr .correction)
-
   came : time tr ≡ wire wr
-  came = wire-time message hr (Body.PDelayResp wr requester) tr reads
+  came = wire-time hr (Body.PDelayResp wr requester) tr message reads
 
   abbrev none : MaybeTime
   none = MaybeTime.None
@@ -138,113 +86,67 @@ module _ (p : Port) (id : ℕ) (t1 t4 : Time) (message : List ℕ) (hr : Header)
   abbrev some : Time → MaybeTime
   some t = MaybeTime.Some t
 
-  abbrev by : Header → MaybeIdentity
-  by h = MaybeIdentity.Some (h .source)
-
-  abbrev exchange : MaybeIdentity → MaybeTime → MaybeTime → MaybeTime → MaybeTime → PeerState
-  exchange o a b c d = PeerState.Measuring id o a b c d
-
   abbrev nobody : MaybeIdentity
   nobody = MaybeIdentity.None
+
+  abbrev by : Header → MaybeIdentity
+  by h = MaybeIdentity.Some (h .source)
 
   abbrev one-goal : Result → Type 0
   one-goal r = MeasuresLinkDelay p id (hr .source) (Pdelays.oneStep (wireFields hr wr)) (time t1) (time t4) r
 
-  one-step-orders : Layout.twoStep hr ≡ false → BothOrders asked stamped-at answered-at one-goal
-  unfolding z₄
+  one-step-orders : Layout.twoStep hr ≡ false → BothOrders (withPeer p (peerRequested id)) (stamp t1 (Context.PDelayReq id)) (event t4 message) one-goal
   one-step-orders one =
       let S = stamp-turns p id t1 in
       let R = response-turns p id hr id-r requester ours false one t4 message wr tr reads in
-      let end = ends p id (hr .source) (Pdelays.oneStep (wireFields hr wr)) (time t1) (time t4) (wire wr) (wire wr) (one-step-link (duration (p .config .asymmetry)) (wireFields hr wr) (time t1) (time t4)) in
+      let end = ends p id (hr .source) (Pdelays.oneStep (wireFields hr wr)) (time t1) (time t4) (wire wr) (wire wr) (one-step-link (duration (p .config .asymmetry)) (wireFields hr wr) (time t1) (time t4)) (hr .source) in
       record {
-        ab = after-two p one-goal (peerRequested id) stamped-at answered-at (time t1) z₄
-            (λ t. exchange nobody (some t) none none none)
-            (λ t u. exchange (by hr) (some t) (some tr) (some tr) (some u))
-            (S nobody none none none) (λ t. R nobody (some t) none none tt) (λ t. refl)
-            (λ t u et eu. end (exchange nobody (some t) none none none) answered-at (hr .source) t tr tr u refl et came came eu);
-        ba = after-two p one-goal (peerRequested id) answered-at stamped-at z₄ (time t1)
-            (λ t. exchange (by hr) none (some tr) (some tr) (some t))
-            (λ t u. exchange (by hr) (some u) (some tr) (some tr) (some t))
-            (R nobody none none none tt) (λ t. S (by hr) (some tr) (some tr) (some t)) (λ t. refl)
-            (λ t u et eu. end (exchange (by hr) none (some tr) (some tr) (some t)) stamped-at (hr .source) u tr tr t refl eu came came et);
+        ab = after-two (peerPart p) one-goal (S nobody none none none) (λ t. R nobody (some t) none none tt) (λ t. refl)
+            (λ t u et eu. end t tr tr u refl et came came eu);
+        ba = after-two (peerPart p) one-goal (R nobody none none none tt) (λ t. S (by hr) (some tr) (some tr) (some t)) (λ t. refl)
+            (λ t u et eu. end u tr tr t refl eu came came et);
       }
 
   module _ (e : Event) (hf : Header) (wf : WireTimestamp) (tf : Time) (brings : Brings e hf (Body.PDelayRespFollowUp wf requester) tf) (id-f : hf .id ≡ id) (one-source : hf .source ≡ hr .source) where
     abbrev two-goal : Result → Type 0
     two-goal r = MeasuresLinkDelay p id (hr .source) (Pdelays.twoStep (wireFields hr wr) (wireFields hf wf)) (time t1) (time t4) r
 
-    z₃ : ℤ
-    z₃ = time tf +ℤ correction (hf .correction)
+    left-at : (t : Time) → time t ≡ time tf +ℤ correction (hf .correction) → time t ≡ wire wf +ℤ correction (hf .correction)
+    left-at t g = g ∙ ap (λ (z : ℤ). z +ℤ correction (hf .correction)) (brought-time hf (Body.PDelayRespFollowUp wf requester) tf e brings)
 
-    left-at : (t : Time) → time t ≡ z₃ → time t ≡ wire wf +ℤ correction (hf .correction)
-    unfolding z₃
-    left-at t g = g ∙ ap (λ (z : ℤ). z +ℤ correction (hf .correction)) (brought-time e hf (Body.PDelayRespFollowUp wf requester) tf brings)
-
-    two-step-orders : Layout.twoStep hr ≡ true → AllOrders asked stamped-at answered-at e two-goal
-    unfolding z₄ z₃
+    two-step-orders : Layout.twoStep hr ≡ true → AllOrders (withPeer p (peerRequested id)) (stamp t1 (Context.PDelayReq id)) (event t4 message) e two-goal
     two-step-orders two =
         let S = stamp-turns p id t1 in
         let R = response-turns p id hr id-r requester ours true two t4 message wr tr reads in
         let F = follow-up-turns p id hf id-f requester ours e wf tf brings in
         let end = ends p id (hr .source) (Pdelays.twoStep (wireFields hr wr) (wireFields hf wf)) (time t1) (time t4) (wire wr) (wire wf +ℤ correction (hf .correction)) (two-step-link (duration (p .config .asymmetry)) (wireFields hr wr) (wireFields hf wf) (time t1) (time t4)) in
         record {
-          abc = after-three p two-goal (peerRequested id) stamped-at answered-at e (time t1) z₄ z₃
-              (λ t. exchange nobody (some t) none none none)
-              (λ t u. exchange (by hr) (some t) (some tr) none (some u))
-              (λ t u v. exchange (by hf) (some t) (some tr) (some v) (some u))
-              (S nobody none none none) (λ t. R nobody (some t) none none tt) (λ t u. F (by hr) (some t) (some tr) (some u) (sym one-source)) (λ t. refl) (λ t u. refl)
-              (λ t u v et eu ev. end (exchange (by hr) (some t) (some tr) none (some u)) e (hf .source) t tr v u one-source et came (left-at v ev) eu);
-          acb = after-three p two-goal (peerRequested id) stamped-at e answered-at (time t1) z₃ z₄
-              (λ t. exchange nobody (some t) none none none)
-              (λ t u. exchange (by hf) (some t) none (some u) none)
-              (λ t u v. exchange (by hr) (some t) (some tr) (some u) (some v))
-              (S nobody none none none) (λ t. F nobody (some t) none none tt) (λ t u. R (by hf) (some t) none (some u) one-source) (λ t. refl) (λ t u. refl)
-              (λ t u v et eu ev. end (exchange (by hf) (some t) none (some u) none) answered-at (hr .source) t tr u v refl et came (left-at u eu) ev);
-          bac = after-three p two-goal (peerRequested id) answered-at stamped-at e z₄ (time t1) z₃
-              (λ t. exchange (by hr) none (some tr) none (some t))
-              (λ t u. exchange (by hr) (some u) (some tr) none (some t))
-              (λ t u v. exchange (by hf) (some u) (some tr) (some v) (some t))
-              (R nobody none none none tt) (λ t. S (by hr) (some tr) none (some t)) (λ t u. F (by hr) (some u) (some tr) (some t) (sym one-source)) (λ t. refl) (λ t u. refl)
-              (λ t u v et eu ev. end (exchange (by hr) (some u) (some tr) none (some t)) e (hf .source) u tr v t one-source eu came (left-at v ev) et);
-          bca = after-three p two-goal (peerRequested id) answered-at e stamped-at z₄ z₃ (time t1)
-              (λ t. exchange (by hr) none (some tr) none (some t))
-              (λ t u. exchange (by hf) none (some tr) (some u) (some t))
-              (λ t u v. exchange (by hf) (some v) (some tr) (some u) (some t))
-              (R nobody none none none tt) (λ t. F (by hr) none (some tr) (some t) (sym one-source)) (λ t u. S (by hf) (some tr) (some u) (some t)) (λ t. refl) (λ t u. refl)
-              (λ t u v et eu ev. end (exchange (by hf) none (some tr) (some u) (some t)) stamped-at (hf .source) v tr u t one-source ev came (left-at u eu) et);
-          cab = after-three p two-goal (peerRequested id) e stamped-at answered-at z₃ (time t1) z₄
-              (λ t. exchange (by hf) none none (some t) none)
-              (λ t u. exchange (by hf) (some u) none (some t) none)
-              (λ t u v. exchange (by hr) (some u) (some tr) (some t) (some v))
-              (F nobody none none none tt) (λ t. S (by hf) none (some t) none) (λ t u. R (by hf) (some u) none (some t) one-source) (λ t. refl) (λ t u. refl)
-              (λ t u v et eu ev. end (exchange (by hf) (some u) none (some t) none) answered-at (hr .source) u tr t v refl eu came (left-at t et) ev);
-          cba = after-three p two-goal (peerRequested id) e answered-at stamped-at z₃ z₄ (time t1)
-              (λ t. exchange (by hf) none none (some t) none)
-              (λ t u. exchange (by hr) none (some tr) (some t) (some u))
-              (λ t u v. exchange (by hr) (some v) (some tr) (some t) (some u))
-              (F nobody none none none tt) (λ t. R (by hf) none none (some t) one-source) (λ t u. S (by hr) (some tr) (some t) (some u)) (λ t. refl) (λ t u. refl)
-              (λ t u v et eu ev. end (exchange (by hr) none (some tr) (some t) (some u)) stamped-at (hr .source) v tr t u refl ev came (left-at t et) eu);
+          abc = after-three (peerPart p) two-goal (S nobody none none none) (λ t. R nobody (some t) none none tt) (λ t u. F (by hr) (some t) (some tr) (some u) (sym one-source)) (λ t. refl) (λ t u. refl)
+              (λ t u v et eu ev. end (hf .source) t tr v u one-source et came (left-at v ev) eu);
+          acb = after-three (peerPart p) two-goal (S nobody none none none) (λ t. F nobody (some t) none none tt) (λ t u. R (by hf) (some t) none (some u) one-source) (λ t. refl) (λ t u. refl)
+              (λ t u v et eu ev. end (hr .source) t tr u v refl et came (left-at u eu) ev);
+          bac = after-three (peerPart p) two-goal (R nobody none none none tt) (λ t. S (by hr) (some tr) none (some t)) (λ t u. F (by hr) (some u) (some tr) (some t) (sym one-source)) (λ t. refl) (λ t u. refl)
+              (λ t u v et eu ev. end (hf .source) u tr v t one-source eu came (left-at v ev) et);
+          bca = after-three (peerPart p) two-goal (R nobody none none none tt) (λ t. F (by hr) none (some tr) (some t) (sym one-source)) (λ t u. S (by hf) (some tr) (some u) (some t)) (λ t. refl) (λ t u. refl)
+              (λ t u v et eu ev. end (hf .source) v tr u t one-source ev came (left-at u eu) et);
+          cab = after-three (peerPart p) two-goal (F nobody none none none tt) (λ t. S (by hf) none (some t) none) (λ t u. R (by hf) (some u) none (some t) one-source) (λ t. refl) (λ t u. refl)
+              (λ t u v et eu ev. end (hr .source) u tr t v refl eu came (left-at t et) ev);
+          cba = after-three (peerPart p) two-goal (F nobody none none none tt) (λ t. R (by hf) none none (some t) one-source) (λ t u. S (by hr) (some tr) (some t) (some u)) (λ t. refl) (λ t u. refl)
+              (λ t u v et eu ev. end (hr .source) v tr t u refl ev came (left-at t et) eu);
         }
 
 -- ---- the request: a delay timer on a port with the peer mechanism takes the next id and opens its exchange
-
-pub timer-refuses : (a : TimerAnswer) → Refuses (aTimer a)
-timer-refuses (TimerAnswer.Value ns) = tt
-timer-refuses TimerAnswer.Interval = λ e. apart cc
-timer-refuses TimerAnswer.Draw = λ e. apart cc
 
 abbrev pub requesting : Port → Port
 requesting p = withIds p (peerIdTaken (p .ids))
 
 module _ (p : Port) (peers : p .config .mechanism ≡ Mechanism.Peer) (draw room : ℕ) (k : Taken (step p room (delayTimer draw))) where
   pub peer-requested : step p room (delayTimer draw) .port ≡ withPeer (requesting p) (peerRequested (p .ids .peer))
-  unfolding ruleOf delayTimerEnds
+  unfolding ruleOf
   peer-requested =
-      let sent : ℕ → Worked Done = λ ns. worked (sending (withPeer (requesting p) (peerRequested (p .ids .peer))) (Action.ResetDelayRequestTimer ns ∷ []) (pDelayReqOf (senderOf (p .config)) (p .ids .peer)) (Action.SendEvent (Context.PDelayReq (p .ids .peer)) true)) in
-      let timer : Worked ℕ = aTimer (delayTimerOf (p .config .«delay_interval») draw) in
-      let r : Ruled p room (delayTimer draw) (timer then sent) = ruled-as p room (delayTimer draw) (ruleOf p (delayTimer draw)) (timer then sent) (ap (request p draw) peers) (ruled p room (delayTimer draw) k) in
-      let w : Went p timer sent = went p timer sent (timer-refuses (delayTimerOf (p .config .«delay_interval») draw)) (r .takes) in
-      ap (λ (x : Result). x .port) (r .is ∙ ap (λ (x : Worked ℕ). answered p (x then sent)) (w .is))
+      let q : Port = withPeer (requesting p) (peerRequested (p .ids .peer)) in
+      taken-has p room (delayTimer draw) (λ r. r .port ≡ q) (λ fit limits.
+      all-delayTimerEnds (λ d. d .port ≡ q) Silent tt tt p draw (λ n e. absurd (apart cc)) (λ s e m ns. absurd (apart cc)) (λ m ns. refl)) k
 
   -- the theorems: after it, the stamp of its send and the answers of one responder, to us and with its id, each event Taken
   module _ (t1 t4 : Time) (message : List ℕ) (hr : Header) (wr : WireTimestamp) (tr : Time) (reads : readOf message ≡ Reading.Message hr (Body.PDelayResp wr (p .config .identity)) tr) (id-r : hr .id ≡ p .ids .peer) where

@@ -12,7 +12,10 @@ pub mod Formulas
 pub mod Changes
 pub mod Actions
 pub mod Sending
+pub mod Ieee
 pub mod Given
+pub mod AllLaws
+pub mod RuleLaws
 pub mod AgreeLaws
 pub mod MeasureLaws
 pub mod SettleLaws
@@ -23,8 +26,6 @@ pub mod SendLaws
 pub mod SumsLaws
 pub mod TableLaws
 pub mod ExactlyWhen
-pub mod AllLaws
-pub mod RuleLaws
 pub mod EveryLaws
 pub mod RefusalLaws
 pub mod FormulaLaws
@@ -37,10 +38,9 @@ pub mod StoredLaws
 pub mod FitnessLaws
 pub mod DueLaws
 pub mod SendingLaws
-pub mod Ieee
 pub mod LinearLaws
 pub mod TakenLaws
-pub mod MeasuredLaws
+pub mod RunLaws
 pub mod IeeeLaws
 pub mod PeerRunLaws
 pub mod IeeePeerLaws

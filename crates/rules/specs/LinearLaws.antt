@@ -42,15 +42,12 @@ unfolding overZero underZero
 parts (pos n) = pos-sub n
 parts (negsuc n) = negsuc-sub n
 
-both : {x x′ y y′ : ℤ} (f : ℤ → ℤ → ℤ) → x ≡ x′ → y ≡ y′ → f x y ≡ f x′ y′
-both f p q = λ i. f (p i) (q i)
-
 of-parts : (a : Terms) → worth a ≡ subℕ (ups a) (downs a)
 of-parts (num z) = parts z
 of-parts (a ⊕ b) =
-    both _+ℤ_ (of-parts a) (of-parts b) ∙ sum-is (ups a) (downs a) (ups b) (downs b) (ups a + ups b) (downs a + downs b) refl
+    (λ i. of-parts a i +ℤ of-parts b i) ∙ sum-is (ups a) (downs a) (ups b) (downs b) (ups a + ups b) (downs a + downs b) refl
 of-parts (a ⊖ b) =
-    both _-ℤ_ (of-parts a) (of-parts b) ∙ difference-is (ups a) (downs a) (ups b) (downs b) (ups a + downs b) (downs a + ups b) refl
+    (λ i. of-parts a i -ℤ of-parts b i) ∙ difference-is (ups a) (downs a) (ups b) (downs b) (ups a + downs b) (downs a + ups b) refl
 
 pub equal-sums : (a b : Terms) → ups a + downs b ≡ ups b + downs a → worth a ≡ worth b
 equal-sums a b e = of-parts a ∙ sub-eq (ups a) (downs a) (ups b) (downs b) e ∙ sym (of-parts b)

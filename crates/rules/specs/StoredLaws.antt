@@ -12,26 +12,33 @@ use Rattle.record.specs.FitLaws.{FitTime, FitSync, FitDelay, FitPeer, peer-time
 use Rattle.rules.specs.Names.{TimeAnswer, Time, Header, Identity, MaybeTime, MaybeIdentity, Exchange, PeerState}
 use Rattle.rules.specs.Worked.{Worked, worked, refused, _then_, aTime, lessCorrection, plusCorrection}
 use Rattle.rules.specs.Exchanges.{Change, stays, becomes, received, twoStepSync, atOnce, oneStepSync, synced, sentAt, followedUp, delayAnswered, delayStamped, peerStamped, responded, respondedLater}
-use Rattle.rules.specs.AllLaws.{All, peerDone}
+use Rattle.rules.specs.AllLaws.{All, Silent, all-map, peerDone}
 
 -- ---- corrected times are times
 
 abbrev pub InTime : Time → Type 0
 InTime t = inTime (time t) ≡ true
 
-summed : (z : ℤ) (a : TimeAnswer) → timeOf z ≡ a → All InTime (aTime a)
-summed z (TimeAnswer.Value t) e =
-    let k : IsTime z t = time-is z t e in
-    ap inTime (k .value) ∙ k .within
+summed : (z : ℤ) (a : TimeAnswer) → timeOf z ≡ a → All (IsTime z) (aTime a)
+summed z (TimeAnswer.Value t) e = time-is z t e
 summed z TimeAnswer.Out e = tt
 
-pub less-in-time : (t : Time) (h : Header) → All InTime (lessCorrection t h)
+pub less-is : (t : Time) (h : Header) → All (IsTime (time t -ℤ correction (h .correction))) (lessCorrection t h)
 unfolding lessCorrection
-less-in-time t h = summed (time t -ℤ correction (h .correction)) (timeOf (time t -ℤ correction (h .correction))) refl
+less-is t h = summed (time t -ℤ correction (h .correction)) (timeOf (time t -ℤ correction (h .correction))) refl
+
+pub plus-is : (t : Time) (h : Header) → All (IsTime (time t +ℤ correction (h .correction))) (plusCorrection t h)
+unfolding plusCorrection
+plus-is t h = summed (time t +ℤ correction (h .correction)) (timeOf (time t +ℤ correction (h .correction))) refl
+
+in-time : (z : ℤ) (w : Worked Time) → All (IsTime z) w → All InTime w
+in-time z w k = all-map (IsTime z) InTime Silent w (λ t i. ap inTime (i .value) ∙ i .within) k
+
+pub less-in-time : (t : Time) (h : Header) → All InTime (lessCorrection t h)
+less-in-time t h = in-time _ (lessCorrection t h) (less-is t h)
 
 pub plus-in-time : (t : Time) (h : Header) → All InTime (plusCorrection t h)
-unfolding plusCorrection
-plus-in-time t h = summed (time t +ℤ correction (h .correction)) (timeOf (time t +ℤ correction (h .correction))) refl
+plus-in-time t h = in-time _ (plusCorrection t h) (plus-is t h)
 
 -- ---- what a change stores
 
