@@ -1,4 +1,4 @@
--- Witnesses, each computed: for every clause of row 2 a record that is unfit by it alone, beside a neighbour that is fit; what row 2 does not list; and the ids at both ends.
+-- Witnesses, each computed: for every clause of row 2 a record that is unfit by it alone, beside a neighbour that is fit; what row 2 does not list; the states; a fresh port; and the ids at both ends.
 use Prim.Native.Nat.{ℕ, _-_, _^_}
 use mathlib.Core.Path.{_≡_, refl}
 use mathlib.Core.Bool.{true, false}
@@ -18,6 +18,7 @@ use Rattle.record.specs.declared.Mechanism.{Mechanism}
 use Rattle.record.specs.declared.Config.{Config}
 use Rattle.record.specs.declared.Port.{Port}
 use Rattle.record.specs.Ids.{idAfter}
+use Rattle.record.specs.Record.{isMaster, isFaulty, isSlave, portOf}
 use Rattle.record.specs.Fit.{timeOut, intervalOut, drawOut, sdoOut, minorOut, configOut, unfit}
 
 -- ---- the parts
@@ -159,7 +160,7 @@ delay-without-time : unfit (delayOpen None None) ≡ false
 unfolding unfit configOut intervalOut sdoOut minorOut interval inInterval signed
 delay-without-time = refl
 
--- ---- an open peer exchange with a time other than the request's send, but no responder
+-- ---- a time that only a responder brings, and no responder known
 
 request-receive-unanswered : Edge (peerOpen noneKnown None aTime None None) (peerOpen oneKnown None aTime None None)
 unfolding unfit configOut intervalOut sdoOut minorOut timeOut time inTime interval inInterval signed
@@ -203,7 +204,7 @@ durations-any : (asymmetry mean raw : Duration) → unfit (record { config = con
 unfolding unfit configOut intervalOut sdoOut minorOut interval inInterval signed
 durations-any asymmetry mean raw = refl
 
--- an exchange of the mechanism that is not configured
+-- the other mechanism's exchange, left open
 peer-when-end-to-end : unfit (ported (configured Mechanism.EndToEnd 0 0 256 0 lowestDuration) PortState.Passive (PeerState.Measuring 7 oneKnown aTime None None None)) ≡ false
 unfolding unfit configOut intervalOut sdoOut minorOut timeOut time inTime interval inInterval signed
 peer-when-end-to-end = refl
@@ -221,6 +222,14 @@ draw-high = (refl, refl)
 time-high : (timeOut lateTime ≡ true) × (timeOut lastTime ≡ false)
 unfolding timeOut time inTime
 time-high = (refl, refl)
+
+-- ---- states are told apart, and a fresh port is spelled out
+
+states-told-apart : (isMaster PortState.Listening ≡ false) × (isMaster PortState.Master ≡ true) × (isMaster PortState.Passive ≡ false) × (isMaster PortState.Faulty ≡ false) × (isMaster (slaveWith Exchange.Empty Exchange.Empty) ≡ false) × (isFaulty PortState.Faulty ≡ true) × (isFaulty PortState.Passive ≡ false) × (isSlave (slaveWith Exchange.Empty Exchange.Empty) ≡ true) × (isSlave PortState.Faulty ≡ false)
+states-told-apart = (refl, refl, refl, refl, refl, refl, refl, refl, refl)
+
+fresh-port : (c : Config) → portOf c ≡ record { config = c; state = PortState.Listening; peer = PeerState.Empty; mean = MaybeDuration.None; ids = record { sync = 0; delay = 0; peer = 0 } }
+fresh-port c = refl
 
 -- ---- sequence ids
 

@@ -1,4 +1,4 @@
--- Document 01, 'at most two actions, in this order (timer before packet)': words for lists of actions, and the action that goes with a sent message.
+-- Document 01, 'Numbers the port answers', on actions: words for lists of them, and the action that goes with a sent message.
 use Prim.Native.Nat.{ℕ}
 use mathlib.Core.Bool.{Bool, true, false, cond, _&&_, _||_, not}
 use mathlib.Core.List.{List, [], _∷_}

@@ -121,7 +121,7 @@ set-rule p new =
 pub state-set : (p : Port) (room : ℕ) (new : NewState) → step p room (setState new) .outcome ≡ Outcome.Taken → IsSet p new (step p room (setState new))
 state-set p room new t = taken-has p room (setState new) (IsSet p new) (λ f l. set-rule p new) t
 
--- a Slave begins with empty exchanges and no last raw sync offset
+-- how a Slave begins: its master, and nothing heard yet
 pub record BeginsAsSlave (master : Identity) (state : PortState) : Type 0 where
   pub slave : SlaveState
   pub is-slave : state ≡ PortState.Slave slave

@@ -13,6 +13,7 @@ use Rattle.rules.specs.Names.{Time, Duration, Body, Identity, Mechanism,
 use Rattle.rules.specs.Events.{Event, event, general, stamp, syncTimer, delayTimer, filterAnswer, setState}
 use Rattle.rules.specs.Exchanges.{received, sentAt}
 use Rattle.rules.specs.Step.{step}
+use Rattle.rules.specs.Actions.{timersFirst}
 use Rattle.rules.specs.Running.{runOf, lines, quiet, measures, refuses, leftBy, todos, resetsIn, idsSent, us, master, stranger, ns, lasting, setUp, slave, message, wireNs, twoStepSyncOf, oneStepSyncOf, followUpAt, minusOne}
 
 -- ---- the marked ones
@@ -142,12 +143,12 @@ pub open-stays : Refused (event (ns 1000) (twoStepSyncOf 7)) (general (late (Bod
 unfolding runOf
 open-stays = (refl, refl)
 
--- an Announce, type 11, is the host's, 8, where it is ours; of another domain it is foreign, 6
-abbrev announce : ℕ → List ℕ
-announce domain =
-    bytesOf (headerEntries (record { «major_sdo» = 0xA; kind = 11; minor = 0x1; version = 2; length = 34; domain = domain; «minor_sdo» = 0x22; flags = 0; correction = 0; source = master; id = 0; interval = 0 }) 5)
+-- an Announce, type 11, is the host's, 8, where it is ours; of another domain, or another sdo id, it is foreign, 6
+abbrev announce : ℕ → ℕ → List ℕ
+announce sdo domain =
+    bytesOf (headerEntries (record { «major_sdo» = 0xA; kind = 11; minor = 0x1; version = 2; length = 34; domain = domain; «minor_sdo» = sdo; flags = 0; correction = 0; source = master; id = 0; interval = 0 }) 5)
 
-pub hosts-or-foreign : lines (runOf (slave 0) (general (announce 0x21) ∷ event (ns 1000) (announce 0x20) ∷ [])) ≡ refuses Outcome.Host ∷ refuses Outcome.Foreign ∷ []
+pub hosts-or-foreign : lines (runOf (slave 0) (general (announce 0x22 0x21) ∷ event (ns 1000) (announce 0x22 0x20) ∷ general (announce 0x23 0x21) ∷ [])) ≡ refuses Outcome.Host ∷ refuses Outcome.Foreign ∷ refuses Outcome.Foreign ∷ []
 unfolding runOf
 hosts-or-foreign = refl
 
@@ -173,3 +174,7 @@ limits-on-events = refl
 pub header-cut-short : lines (runOf (slave 0) (general (0 ∷ 2 ∷ []) ∷ general (twoStepSyncOf 7) ∷ [])) ≡ refuses Outcome.Malformed ∷ quiet ∷ []
 unfolding runOf
 header-cut-short = refl
+
+-- words for actions: a timer behind a packet is out of order
+pub out-of-order : (timersFirst (Action.SendGeneral false ∷ Action.ResetSyncTimer 1 ∷ []) ≡ false) × (timersFirst (Action.ResetSyncTimer 1 ∷ Action.SendGeneral false ∷ []) ≡ true)
+out-of-order = (refl, refl)
