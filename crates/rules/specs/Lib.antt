@@ -12,6 +12,7 @@ pub mod Formulas
 pub mod Changes
 pub mod Actions
 pub mod Sending
+pub mod Held
 pub mod Ieee
 pub mod Given
 pub mod AllLaws
@@ -38,6 +39,9 @@ pub mod StoredLaws
 pub mod FitnessLaws
 pub mod DueLaws
 pub mod SendingLaws
+pub mod HeldSyncLaws
+pub mod HeldRequestLaws
+pub mod HeldLaws
 pub mod LinearLaws
 pub mod TakenLaws
 pub mod RunLaws
