@@ -6,7 +6,7 @@ use lib.IntN.{ℤ, _-ℤ_}
 use Rattle.rules.specs.Names.{Time, Duration, TimeAnswer, DurationAnswer, MaybeDuration, Outcome}
 use Rattle.time.specs.Units.{timeOf, inTime, duration, durationOf, inDuration, half, halfOf}
 use Rattle.time.specs.Laws.{IsTime, time-is, time-out-is, IsDuration, duration-is, duration-out-is, duration-back, half-is}
-use Rattle.rules.specs.Worked.{Worked, worked, refused, _then_, aTime, aDuration, less}
+use Rattle.rules.specs.Worked.{Worked, worked, refused, _then_, aTime, aDuration, lessDuration}
 use Rattle.rules.specs.Events.{Done}
 use Rattle.rules.specs.Measuring.{lessMean, halfBelow}
 use Rattle.rules.specs.WorkedOut.{Number, _∋_, times, durations, outside, ifThere}
@@ -75,17 +75,17 @@ half-means z d i =
     duration-is (half (duration d)) (halfOf d) (half-is (duration d) d (duration-back d (i .hi) (i .lo))) .value ∙ ap half (i .value)
 
 pub agrees-mean : (m : MaybeDuration) (raw : Duration) (z : ℤ) → duration raw ≡ z → (Says : Done → Type 0) (k : MaybeDuration → Worked Done) → ((o : MaybeDuration) → GivenBy m (λ mean. z -ℤ mean) o → Agrees [] Says (k o)) → Agrees (ifThere m (λ mean. z -ℤ mean)) Says (lessMean raw m then k)
-unfolding less
+unfolding lessDuration
 agrees-mean MaybeDuration.None raw z e Says k next = next MaybeDuration.None tt
 agrees-mean (MaybeDuration.Some m) raw z e Says k next =
-    subst (Agrees ((durations ∋ z -ℤ duration m) ∷ []) Says) (sym (then-then (less raw m) (λ o. worked (MaybeDuration.Some o)) k))
+    subst (Agrees ((durations ∋ z -ℤ duration m) ∷ []) Says) (sym (then-then (lessDuration raw m) (λ o. worked (MaybeDuration.Some o)) k))
     (agrees-duration (z -ℤ duration m) [] Says (λ d. k (MaybeDuration.Some d)) (duration raw -ℤ duration m) (ap (λ (x : ℤ). x -ℤ duration m) e)
     (λ d i. next (MaybeDuration.Some d) (i .value)))
 
 pub agrees-half : (m : MaybeDuration) (raw : Duration) (z : ℤ) → duration raw ≡ z → (Says : Done → Type 0) (k : MaybeDuration → Worked Done) → ((o : MaybeDuration) → GivenBy m (λ last. half (last -ℤ z)) o → Agrees [] Says (k o)) → Agrees (ifThere m (λ last. last -ℤ z)) Says (halfBelow m raw then k)
-unfolding less
+unfolding lessDuration
 agrees-half MaybeDuration.None raw z e Says k next = next MaybeDuration.None tt
 agrees-half (MaybeDuration.Some m) raw z e Says k next =
-    subst (Agrees ((durations ∋ duration m -ℤ z) ∷ []) Says) (sym (then-then (less m raw) (λ d. worked (MaybeDuration.Some (halfOf d))) k))
+    subst (Agrees ((durations ∋ duration m -ℤ z) ∷ []) Says) (sym (then-then (lessDuration m raw) (λ d. worked (MaybeDuration.Some (halfOf d))) k))
     (agrees-duration (duration m -ℤ z) [] Says (λ d. k (MaybeDuration.Some (halfOf d))) (duration m -ℤ duration raw) (ap (λ (x : ℤ). duration m -ℤ x) e)
     (λ d i. next (MaybeDuration.Some (halfOf d)) (half-means (duration m -ℤ z) d i)))

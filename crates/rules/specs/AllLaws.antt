@@ -7,11 +7,11 @@ use Rattle.time.specs.Units.{time, timeOf, duration, durationOf, correction}
 use Rattle.rules.specs.Names.{TimeAnswer, DurationAnswer, TimerAnswer, MessageAnswer, Message, Time, Duration, Header, Identity, MaybeTime, MaybeIdentity, Exchange, SlaveState, PortState, PeerState, Port, Outcome}
 use Rattle.record.specs.Record.{asSlave, isSlave}
 use Rattle.record.specs.Fit.{full}
-use Rattle.rules.specs.Worked.{Worked, worked, refused, _then_, aTime, aDuration, aMessage, aTimer, lessCorrection, plusCorrection, between, less}
+use Rattle.rules.specs.Worked.{Worked, worked, refused, _then_, aTime, aDuration, aMessage, aTimer, lessCorrection, plusCorrection, elapsed, lessDuration}
 use Rattle.rules.specs.Events.{Done, changed}
 use Rattle.rules.specs.Measuring.{both, known, complete, peerComplete, settle}
 use Rattle.rules.specs.Exchanges.{Change, stays, becomes}
-use Rattle.rules.specs.Rules.{kept}
+use Rattle.rules.specs.Rules.{keeping}
 
 -- what is worked out has P, and what refuses has R
 abbrev pub Comes : {A : Type 0} → (A → Type 0) → (Outcome → Type 0) → Worked A → Type 0
@@ -95,7 +95,7 @@ module _ {A : Type 0} (P : A → Type 0) (R : Outcome → Type 0) where
   all-peerComplete (PeerState.Measured id r) missing k g h = g refl
 
 -- ---- an exchange that stays, or is stored
-pub all-kept : (P : Done → Type 0) (R : Outcome → Type 0) {X : Type 0} (p : Port) (store : X → Port) (c : Change X) → (c ≡ stays → P (changed p false)) → ((x : X) → c ≡ becomes x → Comes P R (settle (store x))) → Comes P R (kept p store c)
+pub all-kept : (P : Done → Type 0) (R : Outcome → Type 0) {X : Type 0} (p : Port) (store : X → Port) (c : Change X) → (c ≡ stays → P (changed p false)) → ((x : X) → c ≡ becomes x → Comes P R (settle (store x))) → Comes P R (keeping p store c)
 all-kept P R p store stays g h = g refl
 all-kept P R p store (becomes x) g h = h x refl
 
@@ -121,12 +121,12 @@ module _ (R : Outcome → Type 0) (range : R Outcome.Range) where
   unfolding plusCorrection
   all-plusCorrection t h = a-time (timeOf (time t +ℤ correction (h .correction)))
 
-  pub all-between : (a b : Time) → Comes Anything R (between a b)
-  unfolding between
+  pub all-between : (a b : Time) → Comes Anything R (elapsed a b)
+  unfolding elapsed
   all-between a b = a-duration (durationOf (time a -ℤ time b))
 
-  pub all-less : (a b : Duration) → Comes Anything R (less a b)
-  unfolding less
+  pub all-less : (a b : Duration) → Comes Anything R (lessDuration a b)
+  unfolding lessDuration
   all-less a b = a-duration (durationOf (duration a -ℤ duration b))
 
 module _ {A : Type 0} (P : A → Type 0) (R : Outcome → Type 0) where

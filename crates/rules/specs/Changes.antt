@@ -2,10 +2,9 @@
 use Prim.Native.Nat.{ℕ, _+_, _%_}
 use mathlib.Core.Bool.{Bool, true, false, cond, _&&_, _||_}
 use Rattle.rules.specs.Names.{Time, Header, Body, Mechanism, MaybeDuration, Ids, Port, NewState}
-use Rattle.wire.specs.Reading.{readOf}
 use Rattle.record.specs.Record.{stateNumber, isMaster, isFaulty, isSlave}
-use Rattle.rules.specs.Events.{Event, event, general, stamp, syncTimer, delayTimer, filterAnswer, setState}
-use Rattle.rules.specs.WorkedOut.{Completed, none, sync, delay, peer, second, ofReading, sumsOf}
+use Rattle.rules.specs.Events.{Event, event, general, stamp, syncTimer, delayTimer, filterAnswer, setState, reading}
+use Rattle.rules.specs.WorkedOut.{Completed, unfinished, sync, delay, peer, second, ofReading, sumsOf}
 
 -- ---- a second responder is heard: by a PDelayResp on the event entry, or its follow-up on either
 
@@ -28,8 +27,8 @@ secondByAnswer p h (Body.DelayResp w requester) t = false
 secondByAnswer p h (Body.PDelayRespFollowUp w requester) t = second p h requester
 
 unfoldable pub secondHeard : Port → Event → Bool
-secondHeard p (event at message) = ofReading false (secondByAnswer p) (readOf message)
-secondHeard p (general message) = ofReading false (secondByFollowUp p) (readOf message)
+secondHeard p (event at message) = ofReading false (secondByAnswer p) (reading (p .config) message)
+secondHeard p (general message) = ofReading false (secondByFollowUp p) (reading (p .config) message)
 secondHeard p (stamp at context) = false
 secondHeard p syncTimer = false
 secondHeard p (delayTimer draw) = false
@@ -39,7 +38,7 @@ secondHeard p (setState new) = false
 -- ---- a Faulty port recovers: by a peer measurement
 
 abbrev pub isPeer : Completed → Bool
-isPeer none = false
+isPeer unfinished = false
 isPeer (sync send receive) = false
 isPeer (delay send receive) = false
 isPeer (peer a b c d) = true

@@ -11,7 +11,7 @@ use Rattle.record.specs.Fit.{there, unanswered}
 use Rattle.rules.specs.Names.{Time, Header, Identity, MaybeTime, MaybeIdentity, PeerState, Port}
 use Rattle.rules.specs.Worked.{Worked, worked, refused, _then_}
 use Rattle.rules.specs.Exchanges.{Change, stays, becomes, responded, respondedLater, peerStamped}
-use Rattle.rules.specs.WorkedOut.{Completed, none, peer, Sums, noSums, held, hears, opened, syncIn, delayIn, sendIn, receiveIn, peerOpened, requestSendIn, requestReceiveIn, responseSendIn, responseReceiveIn, syncSums, followUpSums, delayRespSums, delayStampSums}
+use Rattle.rules.specs.WorkedOut.{Completed, unfinished, peer, Sums, noSums, held, hears, opened, syncIn, delayIn, sendIn, receiveIn, peerOpened, requestSendIn, requestReceiveIn, responseSendIn, responseReceiveIn, syncSums, followUpSums, delayRespSums, delayStampSums}
 use Rattle.rules.specs.Changes.{isPeer}
 use Rattle.rules.specs.AllLaws.{All, peerDone}
 
@@ -115,12 +115,12 @@ if-held (MaybeTime.Some t) k f = f (time t)
 pub sync-not-peer : (p : Port) (h : Header) (origin receive : ℤ) → isPeer (syncSums p h origin receive .completes) ≡ false
 sync-not-peer p h origin receive =
     gated (hears (p .state) h) _
-    (either (twoStep h) _ _ (either (opened (h .id) (syncIn (p .state)) && not (there (receiveIn (syncIn (p .state))))) _ none (if-held (sendIn (syncIn (p .state))) _ (λ z. refl)) refl) (either (opened (h .id) (syncIn (p .state))) none _ refl refl))
+    (either (twoStep h) _ _ (either (opened (h .id) (syncIn (p .state)) && not (there (receiveIn (syncIn (p .state))))) _ unfinished (if-held (sendIn (syncIn (p .state))) _ (λ z. refl)) refl) (either (opened (h .id) (syncIn (p .state))) unfinished _ refl refl))
 
 pub follow-up-not-peer : (p : Port) (h : Header) (send : ℤ) → isPeer (followUpSums p h send .completes) ≡ false
 follow-up-not-peer p h send =
     gated (hears (p .state) h) _
-    (either (opened (h .id) (syncIn (p .state)) && not (there (sendIn (syncIn (p .state))))) _ none (if-held (receiveIn (syncIn (p .state))) _ (λ z. refl)) refl)
+    (either (opened (h .id) (syncIn (p .state)) && not (there (sendIn (syncIn (p .state))))) _ unfinished (if-held (receiveIn (syncIn (p .state))) _ (λ z. refl)) refl)
 
 pub delay-resp-not-peer : (p : Port) (h : Header) (requester : Identity) (receive : ℤ) → isPeer (delayRespSums p h requester receive .completes) ≡ false
 delay-resp-not-peer p h requester receive =

@@ -14,8 +14,8 @@ use Rattle.rules.specs.Worked.{Worked, worked, _then_, lessCorrection, a
 use Rattle.rules.specs.Events.{Done, nothing}
 use Rattle.rules.specs.Measuring.{complete, measureDelay}
 use Rattle.rules.specs.Exchanges.{Change, stays, becomes, delayAnswered, delayStamped}
-use Rattle.rules.specs.Rules.{kept, delayResp, stamped}
-use Rattle.rules.specs.WorkedOut.{Completed, none, delay, opened, receiveIn, sendIn, held, corrected, noSums, numbersOf, delayRespSums, stampSums}
+use Rattle.rules.specs.Rules.{keeping, delayResp, stamped}
+use Rattle.rules.specs.WorkedOut.{Completed, unfinished, delay, opened, receiveIn, sendIn, held, corrected, noSums, numbersOf, delayRespSums, stampSums}
 use Rattle.rules.specs.AgreeLaws.{by-test, agrees-time, then-then}
 use Rattle.rules.specs.MeasureLaws.{Judged, SumsJudged, delay-judged}
 use Rattle.rules.specs.SettleLaws.{settle-delay}
@@ -27,27 +27,27 @@ module _ (p : Port) (s : SlaveState) (q : peerFull (p .peer) ≡ false) (f : ful
   abbrev store : Exchange → Port
   store x = withSlave p (withDelay s x)
 
-  stored : (x : Exchange) (c : Completed) → Judged slave c (complete x (nothing (store x)) (measureDelay (store x) (withDelay s x))) → Judged slave c (kept slave store (becomes x))
+  stored : (x : Exchange) (c : Completed) → Judged slave c (complete x (nothing (store x)) (measureDelay (store x) (withDelay s x))) → Judged slave c (keeping slave store (becomes x))
   stored x c j = subst (Judged slave c) (sym (settle-delay p s x q f)) j
 
   -- ---- the stamp
 
   -- a send time for an exchange that has none
-  filled : (k : ℕ) (t : Time) (receive : MaybeTime) → Judged slave (held receive (λ r. delay (time t) r)) (kept slave store (becomes (Exchange.Measuring k (MaybeTime.Some t) receive)))
-  filled k t MaybeTime.None = stored (Exchange.Measuring k (MaybeTime.Some t) MaybeTime.None) none (refl, tt)
+  filled : (k : ℕ) (t : Time) (receive : MaybeTime) → Judged slave (held receive (λ r. delay (time t) r)) (keeping slave store (becomes (Exchange.Measuring k (MaybeTime.Some t) receive)))
+  filled k t MaybeTime.None = stored (Exchange.Measuring k (MaybeTime.Some t) MaybeTime.None) unfinished (refl, tt)
   filled k t (MaybeTime.Some u) =
       stored (Exchange.Measuring k (MaybeTime.Some t) (MaybeTime.Some u)) (delay (time t) (time u))
       (delay-judged p s (Exchange.Measuring k (MaybeTime.Some t) (MaybeTime.Some u)) t u)
 
-  stamp-exchange : (id : ℕ) (t : Time) (x : Exchange) → SumsJudged slave (cond (opened id x && not (there (sendIn x))) (record { numbers = []; completes = held (receiveIn x) (λ r. delay (time t) r) }) noSums) (kept slave store (delayStamped id t x))
+  stamp-exchange : (id : ℕ) (t : Time) (x : Exchange) → SumsJudged slave (cond (opened id x && not (there (sendIn x))) (record { numbers = []; completes = held (receiveIn x) (λ r. delay (time t) r) }) noSums) (keeping slave store (delayStamped id t x))
   unfolding delayStamped
   stamp-exchange id t Exchange.Empty = (refl, tt)
   stamp-exchange id t (Exchange.Measuring k (MaybeTime.Some u) receive) =
-      by-test (λ b c. SumsJudged slave (cond (b && false) (record { numbers = []; completes = held receive (λ r. delay (time t) r) }) noSums) (kept slave store c)) (eqb k id) stays stays
+      by-test (λ b c. SumsJudged slave (cond (b && false) (record { numbers = []; completes = held receive (λ r. delay (time t) r) }) noSums) (keeping slave store c)) (eqb k id) stays stays
       (refl, tt)
       (refl, tt)
   stamp-exchange id t (Exchange.Measuring k MaybeTime.None receive) =
-      by-test (λ b c. SumsJudged slave (cond (b && true) (record { numbers = []; completes = held receive (λ r. delay (time t) r) }) noSums) (kept slave store c)) (eqb k id) (becomes (Exchange.Measuring k (MaybeTime.Some t) receive)) stays
+      by-test (λ b c. SumsJudged slave (cond (b && true) (record { numbers = []; completes = held receive (λ r. delay (time t) r) }) noSums) (keeping slave store c)) (eqb k id) (becomes (Exchange.Measuring k (MaybeTime.Some t) receive)) stays
       (filled k t receive)
       (refl, tt)
 
@@ -57,8 +57,8 @@ module _ (p : Port) (s : SlaveState) (q : peerFull (p .peer) ≡ false) (f : ful
 
   -- ---- the response
 
-  heard : (k : ℕ) (t : Time) (send : MaybeTime) → Judged slave (held send (λ a. delay a (time t))) (kept slave store (becomes (Exchange.Measuring k send (MaybeTime.Some t))))
-  heard k t MaybeTime.None = stored (Exchange.Measuring k MaybeTime.None (MaybeTime.Some t)) none (refl, tt)
+  heard : (k : ℕ) (t : Time) (send : MaybeTime) → Judged slave (held send (λ a. delay a (time t))) (keeping slave store (becomes (Exchange.Measuring k send (MaybeTime.Some t))))
+  heard k t MaybeTime.None = stored (Exchange.Measuring k MaybeTime.None (MaybeTime.Some t)) unfinished (refl, tt)
   heard k t (MaybeTime.Some u) =
       stored (Exchange.Measuring k (MaybeTime.Some u) (MaybeTime.Some t)) (delay (time u) (time t))
       (delay-judged p s (Exchange.Measuring k (MaybeTime.Some u) (MaybeTime.Some t)) u t)
@@ -68,13 +68,13 @@ module _ (p : Port) (s : SlaveState) (q : peerFull (p .peer) ≡ false) (f : ful
     sum = aTime (timeOf z)
 
     abbrev rest : Worked (Change Exchange) → Worked Done
-    rest w = w then λ c. kept slave store c
+    rest w = w then λ c. keeping slave store c
 
     answer : (k : ℕ) (send : MaybeTime) → SumsJudged slave (corrected z (held send (λ a. delay a z))) (rest (sum then λ t. worked (becomes (Exchange.Measuring k send (MaybeTime.Some t)))))
     answer k send =
-        subst (SumsJudged slave (corrected z (held send (λ a. delay a z)))) (sym (then-then sum (λ t. worked (becomes (Exchange.Measuring k send (MaybeTime.Some t)))) (λ c. kept slave store c)))
+        subst (SumsJudged slave (corrected z (held send (λ a. delay a z)))) (sym (then-then sum (λ t. worked (becomes (Exchange.Measuring k send (MaybeTime.Some t)))) (λ c. keeping slave store c)))
         (agrees-time z (numbersOf slave (held send (λ a. delay a z))) _ _ (λ t i.
-        subst (λ (y : ℤ). Judged slave (held send (λ a. delay a y)) (kept slave store (becomes (Exchange.Measuring k send (MaybeTime.Some t))))) (i .value) (heard k t send)))
+        subst (λ (y : ℤ). Judged slave (held send (λ a. delay a y)) (keeping slave store (becomes (Exchange.Measuring k send (MaybeTime.Some t))))) (i .value) (heard k t send)))
 
     answer-exchange : (x : Exchange) → SumsJudged slave (cond (opened id x && not (there (receiveIn x))) (corrected z (held (sendIn x) (λ a. delay a z))) noSums) (rest (delayAnswered id sum x))
     unfolding delayAnswered

@@ -3,8 +3,9 @@ use Prim.Native.Nat.{ℕ}
 use mathlib.Core.Bool.{Bool, false}
 use mathlib.Core.List.{List, [], _∷_, _++_}
 use mathlib.Core.Option.{Option, none, some}
-use Rattle.rules.specs.Names.{Time, Message, Port, Context, FilterUpdate, NewState, Outcome, MaybeMeasurement, Action}
+use Rattle.rules.specs.Names.{Config, Reading, Time, Message, Port, Context, FilterUpdate, NewState, Outcome, MaybeMeasurement, Action}
 use Rattle.wire.specs.Layout.{messageBytes}
+use Rattle.wire.specs.Reading.{readOf}
 use Rattle.rules.specs.Worked.{Worked, worked, refused}
 
 -- the seven events, as the event log has them
@@ -16,6 +17,10 @@ pub data Event : Type 0 where
   delayTimer : ℕ → Event  -- with its draw
   filterAnswer : FilterUpdate → Event
   setState : NewState → Event
+
+-- how the port reads a message, on both entries
+abbrev pub reading : Config → List ℕ → Reading
+reading c message = readOf message
 
 -- what a rule gives: the record, perhaps a measurement, perhaps a message to send, actions in their order, and whether the filter is reset
 pub record Done : Type 0 where

@@ -26,12 +26,12 @@ pub record ExactlyWhen (p : Port) (room : ℕ) (e : Event) : Type 0 where
   pub answered-1 : (step p room e .outcome ≡ Outcome.Buffer) ↔ (NoneOf [] × (row1 (p .config) e room ≡ true))
   pub answered-2 : (step p room e .outcome ≡ Outcome.Unfit) ↔ (NoneOf (row1 (p .config) e room ∷ []) × (unfit p ≡ true))
   pub answered-3 : (step p room e .outcome ≡ Outcome.Limits) ↔ (NoneOf (row1 (p .config) e room ∷ unfit p ∷ []) × (row3 e ≡ true))
-  pub answered-4 : (step p room e .outcome ≡ Outcome.Version) ↔ (NoneOf (row1 (p .config) e room ∷ unfit p ∷ row3 e ∷ []) × (row4 e ≡ true))
-  pub answered-5 : (step p room e .outcome ≡ Outcome.Malformed) ↔ (NoneOf (row1 (p .config) e room ∷ unfit p ∷ row3 e ∷ row4 e ∷ []) × (row5 e ≡ true))
-  pub answered-6 : (step p room e .outcome ≡ Outcome.Foreign) ↔ (NoneOf (row1 (p .config) e room ∷ unfit p ∷ row3 e ∷ row4 e ∷ row5 e ∷ []) × (row6 (p .config) e ≡ true))
-  pub answered-8 : (step p room e .outcome ≡ Outcome.Host) ↔ (NoneOf (row1 (p .config) e room ∷ unfit p ∷ row3 e ∷ row4 e ∷ row5 e ∷ row6 (p .config) e ∷ []) × (row8 e ≡ true))
-  pub answered-7 : (step p room e .outcome ≡ Outcome.Range) ↔ (NoneOf (row1 (p .config) e room ∷ unfit p ∷ row3 e ∷ row4 e ∷ row5 e ∷ row6 (p .config) e ∷ row8 e ∷ []) × (row7 p e ≡ true))
-  pub answered-0 : (step p room e .outcome ≡ Outcome.Taken) ↔ NoneOf (row1 (p .config) e room ∷ unfit p ∷ row3 e ∷ row4 e ∷ row5 e ∷ row6 (p .config) e ∷ row8 e ∷ row7 p e ∷ [])
+  pub answered-4 : (step p room e .outcome ≡ Outcome.Version) ↔ (NoneOf (row1 (p .config) e room ∷ unfit p ∷ row3 e ∷ []) × (row4 (p .config) e ≡ true))
+  pub answered-5 : (step p room e .outcome ≡ Outcome.Malformed) ↔ (NoneOf (row1 (p .config) e room ∷ unfit p ∷ row3 e ∷ row4 (p .config) e ∷ []) × (row5 (p .config) e ≡ true))
+  pub answered-6 : (step p room e .outcome ≡ Outcome.Foreign) ↔ (NoneOf (row1 (p .config) e room ∷ unfit p ∷ row3 e ∷ row4 (p .config) e ∷ row5 (p .config) e ∷ []) × (row6 (p .config) e ≡ true))
+  pub answered-8 : (step p room e .outcome ≡ Outcome.Host) ↔ (NoneOf (row1 (p .config) e room ∷ unfit p ∷ row3 e ∷ row4 (p .config) e ∷ row5 (p .config) e ∷ row6 (p .config) e ∷ []) × (row8 (p .config) e ≡ true))
+  pub answered-7 : (step p room e .outcome ≡ Outcome.Range) ↔ (NoneOf (row1 (p .config) e room ∷ unfit p ∷ row3 e ∷ row4 (p .config) e ∷ row5 (p .config) e ∷ row6 (p .config) e ∷ row8 (p .config) e ∷ []) × (row7 p e ≡ true))
+  pub answered-0 : (step p room e .outcome ≡ Outcome.Taken) ↔ NoneOf (row1 (p .config) e room ∷ unfit p ∷ row3 e ∷ row4 (p .config) e ∷ row5 (p .config) e ∷ row6 (p .config) e ∷ row8 (p .config) e ∷ row7 p e ∷ [])
 
 -- ---- of any table whose rows have numbers of their own
 
@@ -91,16 +91,16 @@ module _ (p : Port) (room : ℕ) (e : Event) (b : BytesIn e) where
   c3 = (row3 e, Outcome.Limits)
 
   abbrev c4 : Bool × Outcome
-  c4 = (row4 e, Outcome.Version)
+  c4 = (row4 (p .config) e, Outcome.Version)
 
   abbrev c5 : Bool × Outcome
-  c5 = (row5 e, Outcome.Malformed)
+  c5 = (row5 (p .config) e, Outcome.Malformed)
 
   abbrev c6 : Bool × Outcome
   c6 = (row6 (p .config) e, Outcome.Foreign)
 
   abbrev c8 : Bool × Outcome
-  c8 = (row8 e, Outcome.Host)
+  c8 = (row8 (p .config) e, Outcome.Host)
 
   abbrev c7 : Bool × Outcome
   c7 = (row7 p e, Outcome.Range)

@@ -8,7 +8,7 @@ use Rattle.rules.specs.Worked.{Worked, refused}
 use Rattle.rules.specs.Events.{Event, event, general, stamp, syncTimer, delayTimer, filterAnswer, setState, Done}
 use Rattle.rules.specs.Rules.{onEvent, onGeneral, stamped, filtered, stateSet}
 use Rattle.rules.specs.Table.{ours}
-use Rattle.rules.specs.WorkedOut.{Sums, noSums, none, numbersOf, ofReading, eventSums, laterSums, stampSums, sumsOf}
+use Rattle.rules.specs.WorkedOut.{Sums, noSums, unfinished, numbersOf, ofReading, eventSums, laterSums, stampSums, sumsOf}
 use Rattle.rules.specs.Step.{viewed, ruleOf, step}
 use Rattle.rules.specs.Formulas.{Says}
 use Rattle.rules.specs.AgreeLaws.{by-test, agrees-all}
@@ -39,8 +39,8 @@ module _ (p : Port) where
   rule-said o (event at message) = read-said (eventSums p at) (onEvent p at) (event-judged p o at) (readOf message)
   rule-said o (general message) = read-said (laterSums p) (onGeneral p) (later-judged p o) (readOf message)
   rule-said o (stamp at context) = agreed (stampSums p at context) (stamped p at context) (stamp-judged p o at context)
-  rule-said o syncTimer = all-syncTimerEnds (λ d. Says p none (d .measurement) (d .port)) Silent tt tt p (λ m. tt) (λ m n e. tt)
-  rule-said o (delayTimer draw) = all-delayTimerEnds (λ d. Says p none (d .measurement) (d .port)) Silent tt tt p draw (λ s m. tt) (λ s e m n. tt) (λ m n. tt)
+  rule-said o syncTimer = all-syncTimerEnds (λ d. Says p unfinished (d .measurement) (d .port)) Silent tt tt p (λ m. tt) (λ m n e. tt)
+  rule-said o (delayTimer draw) = all-delayTimerEnds (λ d. Says p unfinished (d .measurement) (d .port)) Silent tt tt p draw (λ s m. tt) (λ s e m n. tt) (λ m n. tt)
   rule-said o (filterAnswer update) = tt
   rule-said o (setState new) = tt
 

@@ -5,7 +5,7 @@ use mathlib.Core.Bool.{true}
 use lib.IntN.{ℤ, _-ℤ_}
 use Rattle.rules.specs.Names.{Time, Duration, Identity, MaybeDuration, Exchange, PeerState, Port, Measurement, MaybeMeasurement}
 use Rattle.time.specs.Units.{time, duration, half}
-use Rattle.rules.specs.WorkedOut.{Completed, none, sync, delay, peer, rawSync, rawDelay, peerTwice, lastRaw, syncIn, delayIn, peerOpened}
+use Rattle.rules.specs.WorkedOut.{Completed, unfinished, sync, delay, peer, rawSync, rawDelay, peerTwice, lastRaw, syncIn, delayIn, peerOpened}
 
 -- a duration that is given exactly if another is there, by a formula over it
 abbrev pub GivenBy : MaybeDuration → (ℤ → ℤ) → MaybeDuration → Type 0
@@ -38,8 +38,8 @@ pub record PeerSays (p : Port) (requestSend requestReceive responseSend response
 
 -- the measurement that an exchange calls for: one of its own kind where one is complete, and none where none is
 abbrev pub Says : Port → Completed → MaybeMeasurement → Port → Type 0
-Says p none MaybeMeasurement.None q = Unit {0}
-Says p none (MaybeMeasurement.Some m) q = ⊥
+Says p unfinished MaybeMeasurement.None q = Unit {0}
+Says p unfinished (MaybeMeasurement.Some m) q = ⊥
 Says p (sync send receive) MaybeMeasurement.None q = ⊥
 Says p (sync send receive) (MaybeMeasurement.Some (Measurement.Sync event raw offset)) q = SyncSays p send receive event raw offset q
 Says p (sync send receive) (MaybeMeasurement.Some (Measurement.Delay event raw d)) q = ⊥

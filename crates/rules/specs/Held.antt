@@ -4,13 +4,12 @@ use mathlib.Core.Bool.{Bool, true, false, cond, _&&_, not}
 use lib.IntN.{_+ℤ_, _-ℤ_}
 use Rattle.time.specs.Units.{time, timeWords, durationWords, correction}
 use Rattle.wire.specs.Layout.{twoStep}
-use Rattle.wire.specs.Reading.{readOf}
 use Rattle.record.specs.Record.{asSlave, withDelay, withState, withPeer, slaveOf}
 use Rattle.record.specs.Fit.{there, full}
 use Rattle.record.specs.Same.{sameIdentity}
 use Rattle.rules.specs.Names.{Body, Time, Header, Identity, MaybeTime, MaybeDuration, MaybeIdentity, Exchange, PortState, PeerState, Mechanism, Port, Context, NewState}
-use Rattle.rules.specs.Events.{Event, event, general, stamp, syncTimer, delayTimer, filterAnswer, setState}
-use Rattle.rules.specs.WorkedOut.{Completed, none, sync, delay, peer, rawSync, lastRaw, hears, syncIn, delayIn, opened, peerOpened, requestSendIn, requestReceiveIn, responseSendIn, responseReceiveIn, answeredBy, second, laterSums, eventSums, ofReading}
+use Rattle.rules.specs.Events.{Event, event, general, stamp, syncTimer, delayTimer, filterAnswer, setState, reading}
+use Rattle.rules.specs.WorkedOut.{Completed, unfinished, sync, delay, peer, rawSync, lastRaw, hears, syncIn, delayIn, opened, peerOpened, requestSendIn, requestReceiveIn, responseSendIn, responseReceiveIn, answeredBy, second, laterSums, eventSums, ofReading}
 use Rattle.rules.specs.Changes.{secondHeard, recovers}
 
 -- ---- a time that comes in: one that stands is not replaced
@@ -94,7 +93,7 @@ pDelayRespFollowUpHeld p h requester t =
 
 -- the raw offset of a sync that is completed is kept
 abbrev pub rawKept : Port → Completed → MaybeDuration
-rawKept p none = lastRaw (p .state)
+rawKept p unfinished = lastRaw (p .state)
 rawKept p (sync send receive) = MaybeDuration.Some (durationWords (rawSync p send receive))
 rawKept p (delay send receive) = lastRaw (p .state)
 rawKept p (peer a b c d) = lastRaw (p .state)
@@ -150,8 +149,8 @@ stateGiven NewState.Faulty = PortState.Faulty
 stateGiven (NewState.Slave master) = PortState.Slave (slaveOf master)
 
 unfoldable pub exchangesAfter : Port → Event → Port
-exchangesAfter p (event at message) = ofReading p (eventHeld p at) (readOf message)
-exchangesAfter p (general message) = ofReading p (laterHeld p) (readOf message)
+exchangesAfter p (event at message) = ofReading p (eventHeld p at) (reading (p .config) message)
+exchangesAfter p (general message) = ofReading p (laterHeld p) (reading (p .config) message)
 exchangesAfter p (stamp at context) = stampHeld p at context
 exchangesAfter p syncTimer = p
 exchangesAfter p (delayTimer draw) = requestHeld p (p .config .mechanism)
@@ -192,8 +191,8 @@ requestConcern Mechanism.EndToEnd = ofSlave
 requestConcern Mechanism.Peer = ofPeer
 
 unfoldable pub concerned : Port → Event → Concern
-concerned p (event at message) = ofReading nobody (λ h b t. messageConcern true b) (readOf message)
-concerned p (general message) = ofReading nobody (λ h b t. messageConcern false b) (readOf message)
+concerned p (event at message) = ofReading nobody (λ h b t. messageConcern true b) (reading (p .config) message)
+concerned p (general message) = ofReading nobody (λ h b t. messageConcern false b) (reading (p .config) message)
 concerned p (stamp at context) = stampConcern context
 concerned p syncTimer = nobody
 concerned p (delayTimer draw) = requestConcern (p .config .mechanism)

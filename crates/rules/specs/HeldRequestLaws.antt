@@ -17,7 +17,7 @@ use Rattle.rules.specs.Worked.{Worked, worked, _then_, aTime, lessCorrec
 use Rattle.rules.specs.Events.{Done, nothing, changed}
 use Rattle.rules.specs.Exchanges.{Change, stays, becomes, delayAnswered, delayStamped, peerStamped, responded, respondedLater}
 use Rattle.rules.specs.Measuring.{complete, measureDelay, recovered, peerComplete, measurePeer}
-use Rattle.rules.specs.Rules.{kept, delayResp, becomesFaulty, peerAnswer, pDelayResp, pDelayRespFollowUp, stamped, request}
+use Rattle.rules.specs.Rules.{keeping, delayResp, becomesFaulty, peerAnswer, pDelayResp, pDelayRespFollowUp, stamped, request}
 use Rattle.rules.specs.WorkedOut.{opened, differs, answeredBy, second}
 use Rattle.rules.specs.Held.{sendFilled, receiveFilled, takenOut, delayRespHeld, delayStampHeld, newDelay, requestHeld, peerTakenOut, peerStampHeld, pDelayRespHeld, pDelayRespFollowUpHeld}
 use Rattle.rules.specs.AgreeLaws.{by-test, then-then}
@@ -45,25 +45,25 @@ module _ (p : Port) (s : SlaveState) (q : peerFull (p .peer) ≡ false) (f : ful
       let y : Exchange = Exchange.Measuring id (MaybeTime.Some a) (MaybeTime.Some b) in
       all-measureDelay (EndsAs (newDelay (asked x) Exchange.Empty)) Silent tt (asked y) (withDelay s y) a b (λ raw delay. record { state = refl; peer = refl })
 
-  stored-delay : (x y : Exchange) → Delays x (takenOut y) (kept (asked x) asked (becomes y))
+  stored-delay : (x y : Exchange) → Delays x (takenOut y) (keeping (asked x) asked (becomes y))
   stored-delay x y = subst (Delays x (takenOut y)) (sym (settle-delay p s y q f)) (measured-delay x y)
 
-  still-delay : (x : Exchange) → full x ≡ false → Delays x (takenOut x) (kept (asked x) asked stays)
+  still-delay : (x : Exchange) → full x ≡ false → Delays x (takenOut x) (keeping (asked x) asked stays)
   still-delay x e =
-      subst (λ (b : Bool). Delays x (cond b Exchange.Empty x) (kept (asked x) asked stays)) (sym e) (record { state = refl; peer = refl })
+      subst (λ (b : Bool). Delays x (cond b Exchange.Empty x) (keeping (asked x) asked stays)) (sym e) (record { state = refl; peer = refl })
 
-  stamp-exchange : (id : ℕ) (t : Time) (x : Exchange) → full x ≡ false → Delays x (cond (opened id x) (takenOut (sendFilled t x)) x) (kept (asked x) asked (delayStamped id t x))
+  stamp-exchange : (id : ℕ) (t : Time) (x : Exchange) → full x ≡ false → Delays x (cond (opened id x) (takenOut (sendFilled t x)) x) (keeping (asked x) asked (delayStamped id t x))
   unfolding delayStamped
   stamp-exchange id t Exchange.Empty e = record { state = refl; peer = refl }
   stamp-exchange id t (Exchange.Measuring k MaybeTime.None receive) e =
       let x : Exchange = Exchange.Measuring k MaybeTime.None receive in
       let y : Exchange = Exchange.Measuring k (MaybeTime.Some t) receive in
-      by-test (λ b c. Delays x (cond b (takenOut y) x) (kept (asked x) asked c)) (eqb k id) (becomes y) stays
+      by-test (λ b c. Delays x (cond b (takenOut y) x) (keeping (asked x) asked c)) (eqb k id) (becomes y) stays
       (stored-delay x y)
       (record { state = refl; peer = refl })
   stamp-exchange id t (Exchange.Measuring k (MaybeTime.Some u) receive) e =
       let x : Exchange = Exchange.Measuring k (MaybeTime.Some u) receive in
-      by-test (λ b c. Delays x (cond b (takenOut x) x) (kept (asked x) asked c)) (eqb k id) stays stays
+      by-test (λ b c. Delays x (cond b (takenOut x) x) (keeping (asked x) asked c)) (eqb k id) stays stays
       (still-delay x e)
       (record { state = refl; peer = refl })
 
@@ -72,7 +72,7 @@ module _ (p : Port) (s : SlaveState) (q : peerFull (p .peer) ≡ false) (f : ful
   delay-stamp-holds e id t = stamp-exchange id t (s .delay) e
 
   abbrev rest : Exchange → Worked (Change Exchange) → Worked Done
-  rest x w = w then λ c. kept (asked x) asked c
+  rest x w = w then λ c. keeping (asked x) asked c
 
   answer-exchange : (id : ℕ) (z : ℤ) (x : Exchange) → full x ≡ false → Delays x (cond (opened id x) (takenOut (receiveFilled (timeWords z) x)) x) (rest x (delayAnswered id (aTime (timeOf z)) x))
   unfolding delayAnswered
@@ -86,7 +86,7 @@ module _ (p : Port) (s : SlaveState) (q : peerFull (p .peer) ≡ false) (f : ful
       let x : Exchange = Exchange.Measuring k send MaybeTime.None in
       let y : Time → Exchange = λ t. Exchange.Measuring k send (MaybeTime.Some t) in
       by-test (λ b c. Delays x (cond b (takenOut (y (timeWords z))) x) (rest x c)) (eqb k id) (aTime (timeOf z) then λ t. worked (becomes (y t))) (worked stays)
-      (subst (Delays x (takenOut (y (timeWords z)))) (sym (then-then (aTime (timeOf z)) (λ t. worked (becomes (y t))) (λ c. kept (asked x) asked c)))
+      (subst (Delays x (takenOut (y (timeWords z)))) (sym (then-then (aTime (timeOf z)) (λ t. worked (becomes (y t))) (λ c. keeping (asked x) asked c)))
       (all-time (EndsAs (newDelay (asked x) (takenOut (y (timeWords z))))) z _ (λ i. stored-delay x (y (timeWords z)))))
       (record { state = refl; peer = refl })
 
@@ -167,7 +167,7 @@ module _ (p : Port) (n : slaveFull (p .state) ≡ false) where
   Peers y w = All (EndsAs (withPeer p y)) w
 
   abbrev keeps : PeerState → Change PeerState → Worked Done
-  keeps q c = kept (withPeer p q) (withPeer p) c
+  keeps q c = keeping (withPeer p q) (withPeer p) c
 
   still : (q : PeerState) → Peers q (keeps q stays)
   still q = record { state = own-state (p .state); peer = refl }

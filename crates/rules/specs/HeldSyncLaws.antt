@@ -12,13 +12,13 @@ use Rattle.record.specs.Record.{withSync, withState, withSlave}
 use Rattle.record.specs.Fit.{there, full, peerFull}
 use Rattle.record.specs.Same.{sameIdentity}
 use Rattle.rules.specs.Names.{TimeAnswer, DurationAnswer, Time, Duration, Header, MaybeTime, Measurement, Exchange, SlaveState, PortState, Port}
-use Rattle.rules.specs.Worked.{Worked, _then_, aTime, aDuration, lessCorrection, plusCorrection, between, less}
+use Rattle.rules.specs.Worked.{Worked, _then_, aTime, aDuration, lessCorrection, plusCorrection, elapsed, lessDuration}
 use Rattle.rules.specs.Events.{Done, nothing}
 use Rattle.rules.specs.Exchanges.{stays, becomes, received, atOnce, sentAt, twoStepSync, oneStepSync, synced, followedUp}
 use Rattle.rules.specs.Measuring.{lessMean, complete, measureSync}
-use Rattle.rules.specs.Rules.{kept, followUp}
+use Rattle.rules.specs.Rules.{keeping, followUp}
 use Rattle.rules.specs.Rules as Rules
-use Rattle.rules.specs.WorkedOut.{Completed, none, sync, asymmetry, rawSync, opened, sendIn, receiveIn, held, noSums, corrected, syncSums, followUpSums}
+use Rattle.rules.specs.WorkedOut.{Completed, unfinished, sync, asymmetry, rawSync, opened, sendIn, receiveIn, held, noSums, corrected, syncSums, followUpSums}
 use Rattle.rules.specs.Held.{sendFilled, receiveFilled, begun, ofId, takenOut, syncHeld, followUpHeld, newSync}
 use Rattle.rules.specs.AgreeLaws.{by-test}
 use Rattle.rules.specs.SettleLaws.{settle-sync}
@@ -68,7 +68,7 @@ module _ (P : Done → Type 0) (z : ℤ) where
 
 -- the raw offset that a measured sync leaves
 all-raw : (P : Done → Type 0) (p : Port) (s : SlaveState) (send receive : Time) → ((m : Measurement) → P (measured (syncOut p s (durationWords (rawSync p (time send) (time receive)))) m false)) → All P (measureSync p s send receive)
-unfolding measureSync between less
+unfolding measureSync elapsed lessDuration
 all-raw P p s send receive f =
     let a : ℤ = time receive -ℤ time send in
     let raw : Duration = durationWords (duration (durationWords a) -ℤ asymmetry p) in
@@ -80,9 +80,9 @@ all-raw P p s send receive f =
 -- ---- the sync exchange: x before the event, y stored by it
 
 abbrev completedBy : Exchange → Completed
-completedBy Exchange.Empty = none
-completedBy (Exchange.Measuring id MaybeTime.None receive) = none
-completedBy (Exchange.Measuring id (MaybeTime.Some a) MaybeTime.None) = none
+completedBy Exchange.Empty = unfinished
+completedBy (Exchange.Measuring id MaybeTime.None receive) = unfinished
+completedBy (Exchange.Measuring id (MaybeTime.Some a) MaybeTime.None) = unfinished
 completedBy (Exchange.Measuring id (MaybeTime.Some a) (MaybeTime.Some b)) = sync (time a) (time b)
 
 with-receive : (k : ℕ) (t : Time) (send : MaybeTime) → completedBy (Exchange.Measuring k send (MaybeTime.Some t)) ≡ held send (λ z. sync z (time t))
@@ -108,50 +108,50 @@ module _ (p : Port) (s : SlaveState) (q : peerFull (p .peer) ≡ false) (e : ful
       let y : Exchange = Exchange.Measuring id (MaybeTime.Some a) (MaybeTime.Some b) in
       all-raw (EndsAs (newSync (port x) (sync (time a) (time b)) Exchange.Empty)) (port y) (withSync s y) a b (λ m. record { state = refl; peer = refl })
 
-  stored : (x y : Exchange) → Syncs x (completedBy y) (takenOut y) (kept (port x) port (becomes y))
+  stored : (x y : Exchange) → Syncs x (completedBy y) (takenOut y) (keeping (port x) port (becomes y))
   stored x y = subst (Syncs x (completedBy y) (takenOut y)) (sym (settle-sync p s y q e)) (settled x y)
 
-  still : (x : Exchange) → Syncs x none x (kept (port x) port stays)
+  still : (x : Exchange) → Syncs x unfinished x (keeping (port x) port stays)
   still x = record { state = refl; peer = refl }
 
   module _ (id : ℕ) (t : Time) where
-    two-step : (x : Exchange) → full x ≡ false → Syncs x (cond (opened id x && not (there (receiveIn x))) (held (sendIn x) (λ send. sync send (time t))) none) (takenOut (receiveFilled t (ofId id x))) (kept (port x) port (twoStepSync id t x))
+    two-step : (x : Exchange) → full x ≡ false → Syncs x (cond (opened id x && not (there (receiveIn x))) (held (sendIn x) (λ send. sync send (time t))) unfinished) (takenOut (receiveFilled t (ofId id x))) (keeping (port x) port (twoStepSync id t x))
     unfolding twoStepSync
     two-step Exchange.Empty f = stored Exchange.Empty (received id t)
     two-step (Exchange.Measuring k send MaybeTime.None) f =
         let x : Exchange = Exchange.Measuring k send MaybeTime.None in
         let y : Exchange = Exchange.Measuring k send (MaybeTime.Some t) in
-        by-test (λ b c. Syncs x (cond (b && true) (held send (λ z. sync z (time t))) none) (takenOut (receiveFilled t (cond b x (begun id)))) (kept (port x) port c)) (eqb k id) (becomes y) (becomes (received id t))
-        (subst (λ (c : Completed). Syncs x c (takenOut y) (kept (port x) port (becomes y))) (with-receive k t send) (stored x y))
+        by-test (λ b c. Syncs x (cond (b && true) (held send (λ z. sync z (time t))) unfinished) (takenOut (receiveFilled t (cond b x (begun id)))) (keeping (port x) port c)) (eqb k id) (becomes y) (becomes (received id t))
+        (subst (λ (c : Completed). Syncs x c (takenOut y) (keeping (port x) port (becomes y))) (with-receive k t send) (stored x y))
         (stored x (received id t))
     two-step (Exchange.Measuring k MaybeTime.None (MaybeTime.Some u)) f =
         let x : Exchange = Exchange.Measuring k MaybeTime.None (MaybeTime.Some u) in
-        by-test (λ b c. Syncs x (cond (b && false) none none) (takenOut (receiveFilled t (cond b x (begun id)))) (kept (port x) port c)) (eqb k id) stays (becomes (received id t))
+        by-test (λ b c. Syncs x (cond (b && false) unfinished unfinished) (takenOut (receiveFilled t (cond b x (begun id)))) (keeping (port x) port c)) (eqb k id) stays (becomes (received id t))
         (still x)
         (stored x (received id t))
     two-step (Exchange.Measuring k (MaybeTime.Some v) (MaybeTime.Some u)) f = absurd (true≢false f)
 
-    one-step : (origin : Time) (x : Exchange) → Syncs x (cond (opened id x) none (sync (time origin) (time t))) (cond (opened id x) x Exchange.Empty) (kept (port x) port (oneStepSync id origin t x))
+    one-step : (origin : Time) (x : Exchange) → Syncs x (cond (opened id x) unfinished (sync (time origin) (time t))) (cond (opened id x) x Exchange.Empty) (keeping (port x) port (oneStepSync id origin t x))
     unfolding oneStepSync
     one-step origin Exchange.Empty = stored Exchange.Empty (atOnce id origin t)
     one-step origin (Exchange.Measuring k send receive) =
         let x : Exchange = Exchange.Measuring k send receive in
-        by-test (λ b c. Syncs x (cond b none (sync (time origin) (time t))) (cond b x Exchange.Empty) (kept (port x) port c)) (eqb k id) stays (becomes (atOnce id origin t))
+        by-test (λ b c. Syncs x (cond b unfinished (sync (time origin) (time t))) (cond b x Exchange.Empty) (keeping (port x) port c)) (eqb k id) stays (becomes (atOnce id origin t))
         (still x)
         (stored x (atOnce id origin t))
 
-    follow : (x : Exchange) → full x ≡ false → Syncs x (cond (opened id x && not (there (sendIn x))) (held (receiveIn x) (λ receive. sync (time t) receive)) none) (takenOut (sendFilled t (ofId id x))) (kept (port x) port (followedUp id t x))
+    follow : (x : Exchange) → full x ≡ false → Syncs x (cond (opened id x && not (there (sendIn x))) (held (receiveIn x) (λ receive. sync (time t) receive)) unfinished) (takenOut (sendFilled t (ofId id x))) (keeping (port x) port (followedUp id t x))
     unfolding followedUp
     follow Exchange.Empty f = stored Exchange.Empty (sentAt id t)
     follow (Exchange.Measuring k MaybeTime.None receive) f =
         let x : Exchange = Exchange.Measuring k MaybeTime.None receive in
         let y : Exchange = Exchange.Measuring k (MaybeTime.Some t) receive in
-        by-test (λ b c. Syncs x (cond (b && true) (held receive (λ z. sync (time t) z)) none) (takenOut (sendFilled t (cond b x (begun id)))) (kept (port x) port c)) (eqb k id) (becomes y) (becomes (sentAt id t))
-        (subst (λ (c : Completed). Syncs x c (takenOut y) (kept (port x) port (becomes y))) (with-send k t receive) (stored x y))
+        by-test (λ b c. Syncs x (cond (b && true) (held receive (λ z. sync (time t) z)) unfinished) (takenOut (sendFilled t (cond b x (begun id)))) (keeping (port x) port c)) (eqb k id) (becomes y) (becomes (sentAt id t))
+        (subst (λ (c : Completed). Syncs x c (takenOut y) (keeping (port x) port (becomes y))) (with-send k t receive) (stored x y))
         (stored x (sentAt id t))
     follow (Exchange.Measuring k (MaybeTime.Some u) MaybeTime.None) f =
         let x : Exchange = Exchange.Measuring k (MaybeTime.Some u) MaybeTime.None in
-        by-test (λ b c. Syncs x (cond (b && false) none none) (takenOut (sendFilled t (cond b x (begun id)))) (kept (port x) port c)) (eqb k id) stays (becomes (sentAt id t))
+        by-test (λ b c. Syncs x (cond (b && false) unfinished unfinished) (takenOut (sendFilled t (cond b x (begun id)))) (keeping (port x) port c)) (eqb k id) stays (becomes (sentAt id t))
         (still x)
         (stored x (sentAt id t))
     follow (Exchange.Measuring k (MaybeTime.Some u) (MaybeTime.Some v)) f = absurd (true≢false f)
@@ -170,12 +170,12 @@ module _ (p : Port) (s : SlaveState) (q : peerFull (p .peer) ≡ false) (f : ful
   sync-holds origin at =
       let z : ℤ = time at -ℤ correction (h .correction) in
       let t : Time = timeWords z in
-      let c : ℤ → Bool → Completed = λ y two. cond two (cond (opened (h .id) x && not (there (receiveIn x))) (held (sendIn x) (λ send. sync send y)) none) (cond (opened (h .id) x) none (sync (time origin) y)) in
+      let c : ℤ → Bool → Completed = λ y two. cond two (cond (opened (h .id) x && not (there (receiveIn x))) (held (sendIn x) (λ send. sync send y)) unfinished) (cond (opened (h .id) x) unfinished (sync (time origin) y)) in
       let y : Bool → Exchange = λ two. cond two (takenOut (receiveFilled t (ofId (h .id) x))) (cond (opened (h .id) x) x Exchange.Empty) in
       by-test (λ b w. All (EndsAs (newSync slave (cond b (corrected z (c z (twoStep h))) noSums .completes) (cond b (y (twoStep h)) x))) w) (sameIdentity (s .master) (h .source)) _ _
       (all-time (EndsAs (newSync slave (c z (twoStep h)) (y (twoStep h)))) z _ (λ i.
-      subst (λ (u : ℤ). All (EndsAs (newSync slave (c u (twoStep h)) (y (twoStep h)))) (kept slave (port p s q e) (synced h origin t x))) i
-      (by-test (λ two k. All (EndsAs (newSync slave (c (time t) two) (y two))) (kept slave (port p s q e) k)) (twoStep h) _ _
+      subst (λ (u : ℤ). All (EndsAs (newSync slave (c u (twoStep h)) (y (twoStep h)))) (keeping slave (port p s q e) (synced h origin t x))) i
+      (by-test (λ two k. All (EndsAs (newSync slave (c (time t) two) (y two))) (keeping slave (port p s q e) k)) (twoStep h) _ _
       (two-step p s q e (h .id) t x f)
       (one-step p s q e (h .id) t origin x))))
       (still p s q e x)
@@ -185,11 +185,11 @@ module _ (p : Port) (s : SlaveState) (q : peerFull (p .peer) ≡ false) (f : ful
   follow-up-holds timestamp =
       let z : ℤ = time timestamp +ℤ correction (h .correction) in
       let t : Time = timeWords z in
-      let c : ℤ → Completed = λ y. cond (opened (h .id) x && not (there (sendIn x))) (held (receiveIn x) (λ receive. sync y receive)) none in
+      let c : ℤ → Completed = λ y. cond (opened (h .id) x && not (there (sendIn x))) (held (receiveIn x) (λ receive. sync y receive)) unfinished in
       let y : Exchange = takenOut (sendFilled t (ofId (h .id) x)) in
       by-test (λ b w. All (EndsAs (newSync slave (cond b (corrected z (c z)) noSums .completes) (cond b y x))) w) (sameIdentity (s .master) (h .source)) _ _
       (all-time (EndsAs (newSync slave (c z) y)) z _ (λ i.
-      subst (λ (u : ℤ). All (EndsAs (newSync slave (c u) y)) (kept slave (port p s q e) (followedUp (h .id) t x))) i
+      subst (λ (u : ℤ). All (EndsAs (newSync slave (c u) y)) (keeping slave (port p s q e) (followedUp (h .id) t x))) i
       (follow p s q e (h .id) t x f)))
       (still p s q e x)
 

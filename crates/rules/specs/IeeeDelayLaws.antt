@@ -15,7 +15,7 @@ use Rattle.rules.specs.Worked.{Worked, worked, _then_, lessCorrection}
 use Rattle.rules.specs.Events.{Event, stamp, delayTimer, Done, Result, answered, nothing}
 use Rattle.rules.specs.Measuring.{settle}
 use Rattle.rules.specs.Exchanges.{Change, stays, becomes, atOnce, requested, delayAnswered, delayStamped}
-use Rattle.rules.specs.Rules.{kept, delayIdTaken, delayResp, stamped, onEvent, onGeneral}
+use Rattle.rules.specs.Rules.{keeping, delayIdTaken, delayResp, stamped, onEvent, onGeneral}
 use Rattle.rules.specs.Step.{ruleOf, step}
 use Rattle.rules.specs.WorkedOut.{Completed, numbersOf}
 use Rattle.rules.specs.AgreeLaws.{agrees-all, then-then}
@@ -40,7 +40,7 @@ module _ (p : Port) (s : SlaveState) (id : ℕ) where
   unfolding ruleOf stamped delayStamped
   stamp-turns t3 receive =
       let x : Exchange = Exchange.Measuring id MaybeTime.None receive in
-      turns (delayPart p s) (worked t3) refl (λ P k. subst (All P) (sym (λ i. kept (with-delay x) with-delay (cond (eq-eqb id id refl i) (becomes (Exchange.Measuring id (MaybeTime.Some t3) receive)) stays))) k)
+      turns (delayPart p s) (worked t3) refl (λ P k. subst (All P) (sym (λ i. keeping (with-delay x) with-delay (cond (eq-eqb id id refl i) (becomes (Exchange.Measuring id (MaybeTime.Some t3) receive)) stays))) k)
 
   -- its DelayResp, by either entry
   response-turns : (h : Header) → h .id ≡ id → s .master ≡ h .source → (e : Event) (w : WireTimestamp) (t : Time) → Brings e h (Body.DelayResp w (p .config .identity)) t → (send : MaybeTime) → Turns (delayPart p s) (Exchange.Measuring id send MaybeTime.None) e (time t -ℤ correction (h .correction)) (λ u. Exchange.Measuring id send (MaybeTime.Some u))
@@ -49,7 +49,7 @@ module _ (p : Port) (s : SlaveState) (id : ℕ) where
       let x : Exchange = Exchange.Measuring id send MaybeTime.None in
       let new : Time → Exchange = λ u. Exchange.Measuring id send (MaybeTime.Some u) in
       let stored : Time → Worked (Change Exchange) = λ u. worked (becomes (new u)) in
-      let g : delayResp (with-delay x) h (p .config .identity) t ≡ (lessCorrection t h then λ u. settle (with-delay (new u))) = (λ i. cond (identity-self (p .config .identity) i) (cond (same-identity (s .master) (h .source) .1 from i) (cond (eq-eqb id (h .id) (sym same-id) i) (lessCorrection t h then stored) (worked stays) then λ y. kept (with-delay x) with-delay y) (nothing (with-delay x))) (nothing (with-delay x))) ∙ then-then (lessCorrection t h) stored (kept (with-delay x) with-delay) in
+      let g : delayResp (with-delay x) h (p .config .identity) t ≡ (lessCorrection t h then λ u. settle (with-delay (new u))) = (λ i. cond (identity-self (p .config .identity) i) (cond (same-identity (s .master) (h .source) .1 from i) (cond (eq-eqb id (h .id) (sym same-id) i) (lessCorrection t h then stored) (worked stays) then λ y. keeping (with-delay x) with-delay y) (nothing (with-delay x))) (nothing (with-delay x))) ∙ then-then (lessCorrection t h) stored (keeping (with-delay x) with-delay) in
       turns (delayPart p s) (lessCorrection t h) (less-worth t h) (λ P. brought-rule h (Body.DelayResp w (p .config .identity)) t P (with-delay x) _ (λ at. g) g e brings)
 
 -- ---- what is measured

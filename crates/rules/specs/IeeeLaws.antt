@@ -16,7 +16,7 @@ use Rattle.rules.specs.Names.{Time, Duration, Header, Body, Reading, May
 use Rattle.rules.specs.Worked.{worked, _then_, lessCorrection, plusCorrection}
 use Rattle.rules.specs.Events.{Event, event, Done, Result, answered, nothing}
 use Rattle.rules.specs.Exchanges.{becomes, received, sentAt, atOnce, synced, twoStepSync, oneStepSync, followedUp}
-use Rattle.rules.specs.Rules.{sync, followUp, kept, onEvent, onGeneral}
+use Rattle.rules.specs.Rules.{sync, followUp, keeping, onEvent, onGeneral}
 use Rattle.rules.specs.Step.{step}
 use Rattle.rules.specs.WorkedOut.{Completed, numbersOf}
 use Rattle.rules.specs.Formulas.{GivenBy}
@@ -108,12 +108,12 @@ module _ (p : Port) (s : SlaveState) (h : Header) (t : Time) (from : s .master �
   sync-turns at message w reads made =
       turns (syncPart p s) (lessCorrection at h) (less-worth at h) (λ P k.
       event-rule h (Body.Sync w) t P (with-sync x) at message reads
-      (subst (All P) (sym (λ i. cond (same-identity (s .master) (h .source) .1 from i) (lessCorrection at h then λ u. kept (with-sync x) with-sync (made u i)) (nothing (with-sync x)))) k))
+      (subst (All P) (sym (λ i. cond (same-identity (s .master) (h .source) .1 from i) (lessCorrection at h then λ u. keeping (with-sync x) with-sync (made u i)) (nothing (with-sync x)))) k))
 
   follow-up-turns : (e : Event) (w : WireTimestamp) → Brings e h (Body.FollowUp w) t → ((u : Time) → followedUp (h .id) u x ≡ becomes (new u)) → Turns (syncPart p s) x e (time t +ℤ correction (h .correction)) new
   unfolding onEvent onGeneral followUp
   follow-up-turns e w brings made =
-      let g : followUp (with-sync x) h t ≡ (plusCorrection t h then λ u. kept (with-sync x) with-sync (becomes (new u))) = λ i. cond (same-identity (s .master) (h .source) .1 from i) (plusCorrection t h then λ u. kept (with-sync x) with-sync (made u i)) (nothing (with-sync x)) in
+      let g : followUp (with-sync x) h t ≡ (plusCorrection t h then λ u. keeping (with-sync x) with-sync (becomes (new u))) = λ i. cond (same-identity (s .master) (h .source) .1 from i) (plusCorrection t h then λ u. keeping (with-sync x) with-sync (made u i)) (nothing (with-sync x)) in
       turns (syncPart p s) (plusCorrection t h) (plus-worth t h) (λ P. brought-rule h (Body.FollowUp w) t P (with-sync x) _ (λ at. g) g e brings)
 
 -- ---- the theorems: a Slave whose sync exchange is empty. All events are answered Taken, which says too that the record is fit

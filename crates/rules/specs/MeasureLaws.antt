@@ -7,7 +7,7 @@ use lib.IntN.{ℤ, _-ℤ_}
 use Rattle.rules.specs.Names.{Time, Duration, Identity, MaybeDuration, Exchange, SlaveState, PeerState, Port, Measurement}
 use Rattle.time.specs.Units.{time, duration, half, halfOf}
 use Rattle.record.specs.Record.{withSlave, withSync, withDelay, withPeer, isFaulty}
-use Rattle.rules.specs.Worked.{Worked, between, less}
+use Rattle.rules.specs.Worked.{Worked, elapsed, lessDuration}
 use Rattle.rules.specs.Events.{Done}
 use Rattle.rules.specs.Measuring.{measuring, measureSync, measureDelay, measurePeer}
 use Rattle.rules.specs.WorkedOut.{Completed, Sums, sync, delay, peer, rawSync, rawDelay, peerTwice, peerOpened, numbersOf, asymmetry}
@@ -29,7 +29,7 @@ module _ (p : Port) (s : SlaveState) (x : Exchange) (send receive : Time) where
   before = withSlave p s
 
   pub sync-agrees : (S : Done → Type 0) → ((raw : Duration) (offset : MaybeDuration) → duration raw ≡ rawSync p (time send) (time receive) → GivenBy (p .mean) (λ mean. rawSync p (time send) (time receive) -ℤ mean) offset → S (measured (syncOut p s raw) (Measurement.Sync receive raw offset) false)) → Agrees (numbersOf before (sync (time send) (time receive))) S (measureSync (withSlave p (withSync s x)) (withSync s x) send receive)
-  unfolding measureSync between less
+  unfolding measureSync elapsed lessDuration
   sync-agrees S f =
       let a : ℤ = time receive -ℤ time send in
       let r : ℤ = rawSync p (time send) (time receive) in
@@ -43,7 +43,7 @@ module _ (p : Port) (s : SlaveState) (x : Exchange) (send receive : Time) where
       record { event-time = refl; raw-is = i; offset-is = g; raw-kept = refl; taken-out = refl })
 
   pub delay-agrees : (S : Done → Type 0) → ((raw : Duration) (d : MaybeDuration) → duration raw ≡ rawDelay p (time send) (time receive) → GivenBy (s .raw) (λ last. half (last -ℤ rawDelay p (time send) (time receive))) d → S (measured (delayOut p s) (Measurement.Delay send raw d) false)) → Agrees (numbersOf before (delay (time send) (time receive))) S (measureDelay (withSlave p (withDelay s x)) (withDelay s x) send receive)
-  unfolding measureDelay between less
+  unfolding measureDelay elapsed lessDuration
   delay-agrees S f =
       let a : ℤ = time send -ℤ time receive in
       let r : ℤ = rawDelay p (time send) (time receive) in
@@ -62,7 +62,7 @@ module _ (p : Port) (x : PeerState) (id : ℕ) (responder : Identity) (t1 t2 t3 
   exchange = peer (time t1) (time t2) (time t3) (time t4)
 
   pub peer-agrees : (S : Done → Type 0) → ((d : Duration) → duration d ≡ half (peerTwice (time t1) (time t2) (time t3) (time t4)) → S (measured (peerOut p id responder) (Measurement.Peer t4 d) (isFaulty (p .state)))) → Agrees (numbersOf p exchange) S (measurePeer (withPeer p x) id responder t1 t2 t3 t4)
-  unfolding measurePeer between less
+  unfolding measurePeer elapsed lessDuration
   peer-agrees S f =
       let turn : ℤ = time t4 -ℤ time t1 in
       let stay : ℤ = time t3 -ℤ time t2 in

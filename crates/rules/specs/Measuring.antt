@@ -6,7 +6,7 @@ use mathlib.Core.Option.{none}
 use Rattle.rules.specs.Names.{Time, Duration, Identity, MaybeTime, MaybeDuration, MaybeIdentity, Exchange, SlaveState, PortState, PeerState, Port, Measurement, MaybeMeasurement}
 use Rattle.time.specs.Units.{halfOf}
 use Rattle.record.specs.Record.{isFaulty, asSlave, withSync, withDelay, withRaw, withState, withSlave, withPeer}
-use Rattle.rules.specs.Worked.{Worked, worked, _then_, between, less}
+use Rattle.rules.specs.Worked.{Worked, worked, _then_, elapsed, lessDuration}
 use Rattle.rules.specs.Events.{Done, nothing}
 
 -- ---- which exchange is complete
@@ -42,26 +42,26 @@ measuring p m reset =
 -- the offset, where there is a mean delay to take off
 abbrev pub lessMean : Duration → MaybeDuration → Worked MaybeDuration
 lessMean raw MaybeDuration.None = worked MaybeDuration.None
-lessMean raw (MaybeDuration.Some mean) = less raw mean then λ offset. worked (MaybeDuration.Some offset)
+lessMean raw (MaybeDuration.Some mean) = lessDuration raw mean then λ offset. worked (MaybeDuration.Some offset)
 
 -- Sync: what passed from send to receive, less the asymmetry, at the receive time; it is kept for the delay
 unfoldable pub measureSync : Port → SlaveState → Time → Time → Worked Done
 measureSync p s send receive =
-    between receive send then λ apart.
-    less apart (p .config .asymmetry) then λ raw.
+    elapsed receive send then λ apart.
+    lessDuration apart (p .config .asymmetry) then λ raw.
     lessMean raw (p .mean) then λ offset.
     measuring (withSlave p (withRaw (withSync s Exchange.Empty) raw)) (Measurement.Sync receive raw offset) false
 
 -- the delay, where a raw sync offset is kept
 abbrev pub halfBelow : MaybeDuration → Duration → Worked MaybeDuration
 halfBelow MaybeDuration.None raw = worked MaybeDuration.None
-halfBelow (MaybeDuration.Some last) raw = less last raw then λ twice. worked (MaybeDuration.Some (halfOf twice))
+halfBelow (MaybeDuration.Some last) raw = lessDuration last raw then λ twice. worked (MaybeDuration.Some (halfOf twice))
 
 -- Delay: from receive to send, less the asymmetry, at the send time
 unfoldable pub measureDelay : Port → SlaveState → Time → Time → Worked Done
 measureDelay p s send receive =
-    between send receive then λ apart.
-    less apart (p .config .asymmetry) then λ raw.
+    elapsed send receive then λ apart.
+    lessDuration apart (p .config .asymmetry) then λ raw.
     halfBelow (s .raw) raw then λ delay.
     measuring (withSlave p (withDelay s Exchange.Empty)) (Measurement.Delay send raw delay) false
 
@@ -72,9 +72,9 @@ recovered state = cond (isFaulty state) PortState.Listening state
 -- Peer: half of what is left of the whole turn without the responder's stay, when the response came. The request stays known as measured; a Faulty port recovers, and the filter with it
 unfoldable pub measurePeer : Port → ℕ → Identity → Time → Time → Time → Time → Worked Done
 measurePeer p id responder requestSend requestReceive responseSend responseReceive =
-    between responseReceive requestSend then λ turn.
-    between responseSend requestReceive then λ stay.
-    less turn stay then λ twice.
+    elapsed responseReceive requestSend then λ turn.
+    elapsed responseSend requestReceive then λ stay.
+    lessDuration turn stay then λ twice.
     measuring (withState (withPeer p (PeerState.Measured id responder)) (recovered (p .state))) (Measurement.Peer responseReceive (halfOf twice)) (isFaulty (p .state))
 
 -- ---- the exchange that an event left complete, in the Rust's order; a record that was fit has no other (`FitnessLaws`)

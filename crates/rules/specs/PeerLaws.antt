@@ -17,7 +17,7 @@ use Rattle.rules.specs.Worked.{Worked, worked, _then_, lessCorrection, p
 use Rattle.rules.specs.Events.{Done, nothing}
 use Rattle.rules.specs.Measuring.{peerComplete, measurePeer}
 use Rattle.rules.specs.Exchanges.{Change, stays, becomes, peerStamped, secondResponder, responded, respondedLater}
-use Rattle.rules.specs.Rules.{kept, becomesFaulty, peerAnswer, pDelayResp, pDelayRespFollowUp, stamped}
+use Rattle.rules.specs.Rules.{keeping, becomesFaulty, peerAnswer, pDelayResp, pDelayRespFollowUp, stamped}
 use Rattle.rules.specs.WorkedOut.{Completed, peer, peerOpened, held, Sums, corrected, noSums, numbersOf, differs, answeredBy, second, pDelayRespSums, pDelayRespFollowUpSums, stampSums}
 use Rattle.rules.specs.AgreeLaws.{by-test, agrees-time, then-then}
 use Rattle.rules.specs.MeasureLaws.{Judged, SumsJudged, peer-judged}
@@ -40,18 +40,18 @@ module _ (p : Port) (n : slaveFull (p .state) ≡ false) (q : PeerState) where
   abbrev judgedStored : Completed → PeerState → Type 0
   judgedStored c x = Judged port c (peerComplete x (nothing (withPeer p x)) (measurePeer (withPeer p x)))
 
-  stored : (x : PeerState) (c : Completed) → judgedStored c x → Judged port c (kept port (withPeer port) (becomes x))
+  stored : (x : PeerState) (c : Completed) → judgedStored c x → Judged port c (keeping port (withPeer port) (becomes x))
   stored x c j = subst (Judged port c) (sym (settle-peer p x n)) j
 
   -- an answer to us is judged where no second responder gives it
-  answer-judged : (h : Header) (requester : Identity) (answer : Worked (Change PeerState)) (o m : Bool) (c : Sums) → SumsJudged port (cond (o && m) c noSums) (answer then λ x. kept port (withPeer port) x) → SumsJudged port (cond (sameIdentity (p .config .identity) requester && not (second port h requester) && o && m) c noSums) (peerAnswer port h requester answer)
+  answer-judged : (h : Header) (requester : Identity) (answer : Worked (Change PeerState)) (o m : Bool) (c : Sums) → SumsJudged port (cond (o && m) c noSums) (answer then λ x. keeping port (withPeer port) x) → SumsJudged port (cond (sameIdentity (p .config .identity) requester && not (second port h requester) && o && m) c noSums) (peerAnswer port h requester answer)
   unfolding peerAnswer
   answer-judged h requester answer o m c j =
       let d : Bool = differs (answeredBy (h .id) q) (h .source) in
       let sums : Bool → Bool → Sums = λ us e. cond (us && not (us && e) && o && m) c noSums in
       by-test (λ us w. SumsJudged port (sums us d) w) (sameIdentity (p .config .identity) requester) _ _
-      (subst (λ (t : Bool). SumsJudged port (sums true d) (cond t (worked (becomesFaulty port)) (answer then λ x. kept port (withPeer port) x))) (sym (second-same h q))
-      (by-test (λ e w. SumsJudged port (sums true e) w) d (worked (becomesFaulty port)) (answer then λ x. kept port (withPeer port) x) (refl, tt) j))
+      (subst (λ (t : Bool). SumsJudged port (sums true d) (cond t (worked (becomesFaulty port)) (answer then λ x. keeping port (withPeer port) x))) (sym (second-same h q))
+      (by-test (λ e w. SumsJudged port (sums true e) w) d (worked (becomesFaulty port)) (answer then λ x. keeping port (withPeer port) x) (refl, tt) j))
       (refl, tt)
 
 -- ---- what is stored: three shapes of one exchange, by which time was missing
@@ -97,37 +97,37 @@ module _ (p : Port) (n : slaveFull (p .state) ≡ false) where
   peer-stamp-sums (PeerState.Measured k w) u id t = (refl, tt)
   peer-stamp-sums (PeerState.Measuring k w (MaybeTime.Some a) b c d) u id t =
       let q : PeerState = PeerState.Measuring k w (MaybeTime.Some a) b c d in
-      by-test (λ o x. SumsJudged (withPeer p q) (cond (o && false) (record { numbers = []; completes = held b (λ came. held c (λ send. held d (λ receive. peer (time t) came send receive))) }) noSums) (kept (withPeer p q) (withPeer (withPeer p q)) x)) (eqb k id) stays stays
+      by-test (λ o x. SumsJudged (withPeer p q) (cond (o && false) (record { numbers = []; completes = held b (λ came. held c (λ send. held d (λ receive. peer (time t) came send receive))) }) noSums) (keeping (withPeer p q) (withPeer (withPeer p q)) x)) (eqb k id) stays stays
       (refl, tt)
       (refl, tt)
   peer-stamp-sums (PeerState.Measuring k w MaybeTime.None b c d) u id t =
       let q : PeerState = PeerState.Measuring k w MaybeTime.None b c d in
       let x : PeerState = PeerState.Measuring k w (MaybeTime.Some t) b c d in
       let e : Completed = held b (λ came. held c (λ send. held d (λ receive. peer (time t) came send receive))) in
-      by-test (λ o x. SumsJudged (withPeer p q) (cond (o && true) (record { numbers = []; completes = e }) noSums) (kept (withPeer p q) (withPeer (withPeer p q)) x)) (eqb k id) (becomes x) stays
+      by-test (λ o x. SumsJudged (withPeer p q) (cond (o && true) (record { numbers = []; completes = e }) noSums) (keeping (withPeer p q) (withPeer (withPeer p q)) x)) (eqb k id) (becomes x) stays
       (stored p n q x e (asked p n k w b c d u t))
       (refl, tt)
 
   -- a sum, then what it stores
-  summed : (q : PeerState) (z : ℤ) (c : ℤ → Completed) (x : Time → PeerState) → ((t : Time) → judgedStored p n q (c (time t)) (x t)) → SumsJudged (withPeer p q) (corrected z (c z)) ((aTime (timeOf z) then λ t. worked (becomes (x t))) then λ y. kept (withPeer p q) (withPeer (withPeer p q)) y)
+  summed : (q : PeerState) (z : ℤ) (c : ℤ → Completed) (x : Time → PeerState) → ((t : Time) → judgedStored p n q (c (time t)) (x t)) → SumsJudged (withPeer p q) (corrected z (c z)) ((aTime (timeOf z) then λ t. worked (becomes (x t))) then λ y. keeping (withPeer p q) (withPeer (withPeer p q)) y)
   summed q z c x each =
-      let k : Change PeerState → Worked Done = λ y. kept (withPeer p q) (withPeer (withPeer p q)) y in
+      let k : Change PeerState → Worked Done = λ y. keeping (withPeer p q) (withPeer (withPeer p q)) y in
       subst (SumsJudged (withPeer p q) (corrected z (c z))) (sym (then-then (aTime (timeOf z)) (λ t. worked (becomes (x t))) k))
       (agrees-time z (numbersOf (withPeer p q) (c z)) _ _ (λ t i.
       subst (λ (y : ℤ). Judged (withPeer p q) (c y) (k (becomes (x t)))) (i .value) (stored p n q (x t) (c (time t)) (each t))))
 
   module _ (h : Header) (requester : Identity) where
     -- an answer that can change nothing
-    idle : (q : PeerState) (o : Bool) (c : Sums) → SumsJudged (withPeer p q) (cond (o && false) c noSums) (cond o (worked stays) (worked stays) then λ y. kept (withPeer p q) (withPeer (withPeer p q)) y)
+    idle : (q : PeerState) (o : Bool) (c : Sums) → SumsJudged (withPeer p q) (cond (o && false) c noSums) (cond o (worked stays) (worked stays) then λ y. keeping (withPeer p q) (withPeer (withPeer p q)) y)
     idle q o c =
-        by-test (λ t x. SumsJudged (withPeer p q) (cond (t && false) c noSums) (x then λ y. kept (withPeer p q) (withPeer (withPeer p q)) y)) o (worked stays) (worked stays)
+        by-test (λ t x. SumsJudged (withPeer p q) (cond (t && false) c noSums) (x then λ y. keeping (withPeer p q) (withPeer (withPeer p q)) y)) o (worked stays) (worked stays)
         (refl, tt)
         (refl, tt)
 
     -- an answer that a measuring exchange of its id waits for
-    awaited : (q : PeerState) (o : Bool) (z : ℤ) (c : ℤ → Completed) (x : Time → PeerState) → ((t : Time) → judgedStored p n q (c (time t)) (x t)) → SumsJudged (withPeer p q) (cond (o && true) (corrected z (c z)) noSums) (cond o (aTime (timeOf z) then λ t. worked (becomes (x t))) (worked stays) then λ y. kept (withPeer p q) (withPeer (withPeer p q)) y)
+    awaited : (q : PeerState) (o : Bool) (z : ℤ) (c : ℤ → Completed) (x : Time → PeerState) → ((t : Time) → judgedStored p n q (c (time t)) (x t)) → SumsJudged (withPeer p q) (cond (o && true) (corrected z (c z)) noSums) (cond o (aTime (timeOf z) then λ t. worked (becomes (x t))) (worked stays) then λ y. keeping (withPeer p q) (withPeer (withPeer p q)) y)
     awaited q o z c x each =
-        by-test (λ t a. SumsJudged (withPeer p q) (cond (t && true) (corrected z (c z)) noSums) (a then λ y. kept (withPeer p q) (withPeer (withPeer p q)) y)) o _ (worked stays)
+        by-test (λ t a. SumsJudged (withPeer p q) (cond (t && true) (corrected z (c z)) noSums) (a then λ y. keeping (withPeer p q) (withPeer (withPeer p q)) y)) o _ (worked stays)
         (summed q z c x each)
         (refl, tt)
 

@@ -16,7 +16,7 @@ use Rattle.rules.specs.Worked.{Worked, worked, _then_, lessCorrection, p
 use Rattle.rules.specs.Events.{Event, event, stamp, Done, Result, answered, nothing}
 use Rattle.rules.specs.Measuring.{settle}
 use Rattle.rules.specs.Exchanges.{Change, stays, becomes, another, peerStamped, secondResponder, responded, respondedLater}
-use Rattle.rules.specs.Rules.{kept, becomesFaulty, peerAnswer, pDelayResp, pDelayRespFollowUp, stamped, onEvent, onGeneral}
+use Rattle.rules.specs.Rules.{keeping, becomesFaulty, peerAnswer, pDelayResp, pDelayRespFollowUp, stamped, onEvent, onGeneral}
 use Rattle.rules.specs.Step.{ruleOf}
 use Rattle.rules.specs.WorkedOut.{Completed, peerTwice, numbersOf}
 use Rattle.rules.specs.AgreeLaws.{agrees-all, then-then}
@@ -45,7 +45,7 @@ module _ (p : Port) (id : ℕ) where
   unfolding ruleOf stamped peerStamped
   stamp-turns t1 o b c d =
       let q : Port = withPeer p (exchange o MaybeTime.None b c d) in
-      turns (peerPart p) (worked t1) refl (λ P k. subst (All P) (sym (λ i. kept q (withPeer q) (cond (eq-eqb id id refl i) (becomes (exchange o (MaybeTime.Some t1) b c d)) stays))) k)
+      turns (peerPart p) (worked t1) refl (λ P k. subst (All P) (sym (λ i. keeping q (withPeer q) (cond (eq-eqb id id refl i) (becomes (exchange o (MaybeTime.Some t1) b c d)) stays))) k)
 
   -- ---- the answers to us, of no second responder
 
@@ -54,8 +54,8 @@ module _ (p : Port) (id : ℕ) where
     unfolding peerAnswer secondResponder
     answer-is o a b c d only answer sum new made =
         let q : Port = withPeer p (exchange o a b c d) in
-        (λ i. cond (same-identity (p .config .identity) requester .1 ours i) (cond (eq-eqb id (h .id) (sym same-id) i && no-second (h .source) o only i) (worked (becomesFaulty q)) (made i then λ x. kept q (withPeer p) x)) (nothing q))
-        ∙ then-then sum (λ t. worked (becomes (new t))) (kept q (withPeer p))
+        (λ i. cond (same-identity (p .config .identity) requester .1 ours i) (cond (eq-eqb id (h .id) (sym same-id) i && no-second (h .source) o only i) (worked (becomesFaulty q)) (made i then λ x. keeping q (withPeer p) x)) (nothing q))
+        ∙ then-then sum (λ t. worked (becomes (new t))) (keeping q (withPeer p))
 
     abbrev responded-new : Bool → MaybeTime → MaybeTime → Time → Time → PeerState
     responded-new two a c body t =

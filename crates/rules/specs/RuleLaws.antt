@@ -13,7 +13,7 @@ use Rattle.record.specs.Record.{isMaster, isFaulty, isSlave, withSync, withDela
 use Rattle.record.specs.Fit.{there}
 use Rattle.wire.specs.Layout.{twoStep}
 use Rattle.record.specs.Same.{sameIdentity}
-use Rattle.rules.specs.Worked.{Worked, worked, _then_, lessCorrection, plusCorrection, between, less}
+use Rattle.rules.specs.Worked.{Worked, worked, _then_, lessCorrection, plusCorrection, elapsed, lessDuration}
 use Rattle.rules.specs.Events.{Done, nothing, changed, sending}
 use Rattle.rules.specs.Measuring.{lessMean, halfBelow, recovered, measureSync, measureDelay, measurePeer, settle}
 use Rattle.rules.specs.Exchanges.{Change, stays, becomes, synced, followedUp, delayAnswered, delayStamped, requested, peerRequested, peerStamped, secondResponder, responded, respondedLater}
@@ -57,33 +57,33 @@ peerSent p ns =
 module _ (R : Outcome → Type 0) (range : R Outcome.Range) where
   all-lessMean : (raw : Duration) (mean : MaybeDuration) → Comes Anything R (lessMean raw mean)
   all-lessMean raw MaybeDuration.None = tt
-  all-lessMean raw (MaybeDuration.Some mean) = all-then Anything R (less raw mean) _ (all-less R range raw mean) (λ d e. tt)
+  all-lessMean raw (MaybeDuration.Some mean) = all-then Anything R (lessDuration raw mean) _ (all-less R range raw mean) (λ d e. tt)
 
   all-halfBelow : (last : MaybeDuration) (raw : Duration) → Comes Anything R (halfBelow last raw)
   all-halfBelow MaybeDuration.None raw = tt
-  all-halfBelow (MaybeDuration.Some last) raw = all-then Anything R (less last raw) _ (all-less R range last raw) (λ d e. tt)
+  all-halfBelow (MaybeDuration.Some last) raw = all-then Anything R (lessDuration last raw) _ (all-less R range last raw) (λ d e. tt)
 
 module _ (P : Done → Type 0) (R : Outcome → Type 0) (range : R Outcome.Range) where
   pub all-measureSync : (p : Port) (s : SlaveState) (send receive : Time) → ((raw : Duration) (offset : MaybeDuration) → P (measured (syncOut p s raw) (Measurement.Sync receive raw offset) false)) → Comes P R (measureSync p s send receive)
   unfolding measureSync
   all-measureSync p s send receive f =
-      all-then P R (between receive send) _ (all-between R range receive send) (λ apart e.
-      all-then P R (less apart (p .config .asymmetry)) _ (all-less R range apart (p .config .asymmetry)) (λ raw g.
+      all-then P R (elapsed receive send) _ (all-between R range receive send) (λ apart e.
+      all-then P R (lessDuration apart (p .config .asymmetry)) _ (all-less R range apart (p .config .asymmetry)) (λ raw g.
       all-then P R (lessMean raw (p .mean)) _ (all-lessMean R range raw (p .mean)) (λ offset k. f raw offset)))
 
   pub all-measureDelay : (p : Port) (s : SlaveState) (send receive : Time) → ((raw : Duration) (delay : MaybeDuration) → P (measured (delayOut p s) (Measurement.Delay send raw delay) false)) → Comes P R (measureDelay p s send receive)
   unfolding measureDelay
   all-measureDelay p s send receive f =
-      all-then P R (between send receive) _ (all-between R range send receive) (λ apart e.
-      all-then P R (less apart (p .config .asymmetry)) _ (all-less R range apart (p .config .asymmetry)) (λ raw g.
+      all-then P R (elapsed send receive) _ (all-between R range send receive) (λ apart e.
+      all-then P R (lessDuration apart (p .config .asymmetry)) _ (all-less R range apart (p .config .asymmetry)) (λ raw g.
       all-then P R (halfBelow (s .raw) raw) _ (all-halfBelow R range (s .raw) raw) (λ delay k. f raw delay)))
 
   pub all-measurePeer : (p : Port) (id : ℕ) (i : Identity) (a b c d : Time) → ((twice : Duration) → P (measured (peerOut p id i) (Measurement.Peer d (halfOf twice)) (isFaulty (p .state)))) → Comes P R (measurePeer p id i a b c d)
   unfolding measurePeer
   all-measurePeer p id i a b c d f =
-      all-then P R (between d a) _ (all-between R range d a) (λ turn e.
-      all-then P R (between c b) _ (all-between R range c b) (λ stay g.
-      all-then P R (less turn stay) _ (all-less R range turn stay) (λ twice k. f twice)))
+      all-then P R (elapsed d a) _ (all-between R range d a) (λ turn e.
+      all-then P R (elapsed c b) _ (all-between R range c b) (λ stay g.
+      all-then P R (lessDuration turn stay) _ (all-less R range turn stay) (λ twice k. f twice)))
 
   -- whichever exchange is complete, or none
   pub all-settle : (p : Port) → P (changed p false) → ((s : SlaveState) (raw : Duration) (m : Measurement) → P (measured (syncOut p s raw) m false)) → ((s : SlaveState) (m : Measurement) → P (measured (delayOut p s) m false)) → ((id : ℕ) (i : Identity) (m : Measurement) → P (measured (peerOut p id i) m (isFaulty (p .state)))) → Comes P R (settle p)

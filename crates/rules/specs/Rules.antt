@@ -28,9 +28,9 @@ abbrev pub toUs : Port → Identity → Worked Done → Worked Done
 toUs p requester rule = cond (sameIdentity (p .config .identity) requester) rule (nothing p)
 
 -- where the exchange stays nothing is done; a new one is stored, and measured if that completes it
-abbrev pub kept : {A : Type 0} → Port → (A → Port) → Change A → Worked Done
-kept p store stays = nothing p
-kept p store (becomes x) = settle (store x)
+abbrev pub keeping : {A : Type 0} → Port → (A → Port) → Change A → Worked Done
+keeping p store stays = nothing p
+keeping p store (becomes x) = settle (store x)
 
 -- ---- received messages
 
@@ -38,19 +38,19 @@ unfoldable pub sync : Port → Header → Time → Time → Worked Done
 sync p h origin at =
     fromMaster p h (λ s.
     lessCorrection at h then λ receive.
-    kept p (λ x. withSlave p (withSync s x)) (synced h origin receive (s .sync)))
+    keeping p (λ x. withSlave p (withSync s x)) (synced h origin receive (s .sync)))
 
 unfoldable pub followUp : Port → Header → Time → Worked Done
 followUp p h timestamp =
     fromMaster p h (λ s.
     plusCorrection timestamp h then λ send.
-    kept p (λ x. withSlave p (withSync s x)) (followedUp (h .id) send (s .sync)))
+    keeping p (λ x. withSlave p (withSync s x)) (followedUp (h .id) send (s .sync)))
 
 unfoldable pub delayResp : Port → Header → Identity → Time → Worked Done
 delayResp p h requester timestamp =
     toUs p requester (fromMaster p h (λ s.
     delayAnswered (h .id) (lessCorrection timestamp h) (s .delay) then λ x.
-    kept p (λ y. withSlave p (withDelay s y)) x))
+    keeping p (λ y. withSlave p (withDelay s y)) x))
 
 -- the answers to a PDelayReq count in each state. Two responders on one link are a fault, which is looked for first
 abbrev pub becomesFaulty : Port → Done
@@ -59,7 +59,7 @@ becomesFaulty p = changed (withState p PortState.Faulty) true
 unfoldable pub peerAnswer : Port → Header → Identity → Worked (Change PeerState) → Worked Done
 peerAnswer p h requester answer =
     toUs p requester
-    (cond (secondResponder h (p .peer)) (worked (becomesFaulty p)) (answer then λ x. kept p (withPeer p) x))
+    (cond (secondResponder h (p .peer)) (worked (becomesFaulty p)) (answer then λ x. keeping p (withPeer p) x))
 
 unfoldable pub pDelayResp : Port → Header → Identity → Time → Time → Worked Done
 pDelayResp p h requester body at = peerAnswer p h requester (responded h body (lessCorrection at h) (p .peer))
@@ -89,8 +89,8 @@ stamped p t (Context.Sync id) =
     worked (sending p [] m (Action.SendGeneral false)))
     (nothing p)
 stamped p t (Context.DelayReq id) =
-    asSlave (p .state) (nothing p) (λ s. kept p (λ x. withSlave p (withDelay s x)) (delayStamped id t (s .delay)))
-stamped p t (Context.PDelayReq id) = kept p (withPeer p) (peerStamped id t (p .peer))
+    asSlave (p .state) (nothing p) (λ s. keeping p (λ x. withSlave p (withDelay s x)) (delayStamped id t (s .delay)))
+stamped p t (Context.PDelayReq id) = keeping p (withPeer p) (peerStamped id t (p .peer))
 stamped p t (Context.PDelayResp id requester) =
     aMessage (pDelayRespFollowUpOf (senderOf (p .config)) id requester t) then λ m.
     worked (sending p [] m (Action.SendGeneral true))

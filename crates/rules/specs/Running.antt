@@ -15,7 +15,7 @@ use Rattle.record.specs.Ids.{idAfter}
 use Rattle.record.specs.Fit.{timeOut, intervalOut, drawOut, sdoOut, minorOut, configOut, unfit}
 use Rattle.record.specs.Same.{sameIdentity}
 use Rattle.rules.specs.Names.{Time, Duration, Identity, Sender, Body, Mechanism, Port, Action, Outcome, Measurement, MaybeMeasurement}
-use Rattle.rules.specs.Worked.{lessCorrection, plusCorrection, between, less}
+use Rattle.rules.specs.Worked.{lessCorrection, plusCorrection, elapsed, lessDuration}
 use Rattle.rules.specs.Events.{Event, Result}
 use Rattle.rules.specs.Measuring.{measureSync, measureDelay, measurePeer, settle}
 use Rattle.rules.specs.Exchanges.{twoStepSync, oneStepSync, followedUp, delayAnswered, delayStamped, peerStamped, secondResponder, responded, respondedLater}
@@ -26,7 +26,7 @@ use Rattle.rules.specs.Step.{ruleOf, step}
 -- ---- a run: each event on the record that the one before it leftBy, with a buffer of 64 bytes. Whoever opens it opens all that a port computes with
 
 unfoldable pub runOf : Port → List Event → List Result
-unfolding step ruleOf row1 row3 unfit timeOut intervalOut drawOut sdoOut minorOut configOut sameIdentity idAfter readOf row4 row5 messageOf number headerOf identityAt timestampAt bodyOf kindOf sdoId twoStep timeOfWire wire messageBytes messageEntries headerEntries identityEntries timestampEntries bodyEntries bytesOf spell headerFor zeroTimestamp time inTime timeOf signed duration inDuration durationOf wireOf correction half halfOf Timers.interval Timers.inInterval Timers.inDraw Timers.syncTimer Timers.delayTimer Timers.syncTimerOf Timers.delayTimerOf correctionOf answerStamp followStamp syncOf delayReqOf followUpOf pDelayReqOf pDelayRespOf delayRespOf pDelayRespFollowUpOf lessCorrection plusCorrection between less measureSync measureDelay measurePeer settle twoStepSync oneStepSync followedUp delayAnswered delayStamped peerStamped secondResponder responded respondedLater Rules.sync Rules.followUp Rules.delayResp Rules.peerAnswer Rules.pDelayResp Rules.pDelayRespFollowUp Rules.delayReq Rules.pDelayReq Rules.stamped Rules.delayTimerEnds Rules.syncTimerEnds Rules.onEvent Rules.onGeneral Rules.filtered Rules.stateSet
+unfolding step ruleOf row1 row3 unfit timeOut intervalOut drawOut sdoOut minorOut configOut sameIdentity idAfter readOf row4 row5 messageOf number headerOf identityAt timestampAt bodyOf kindOf sdoId twoStep timeOfWire wire messageBytes messageEntries headerEntries identityEntries timestampEntries bodyEntries bytesOf spell headerFor zeroTimestamp time inTime timeOf signed duration inDuration durationOf wireOf correction half halfOf Timers.interval Timers.inInterval Timers.inDraw Timers.syncTimer Timers.delayTimer Timers.syncTimerOf Timers.delayTimerOf correctionOf answerStamp followStamp syncOf delayReqOf followUpOf pDelayReqOf pDelayRespOf delayRespOf pDelayRespFollowUpOf lessCorrection plusCorrection elapsed lessDuration measureSync measureDelay measurePeer settle twoStepSync oneStepSync followedUp delayAnswered delayStamped peerStamped secondResponder responded respondedLater Rules.sync Rules.followUp Rules.delayResp Rules.peerAnswer Rules.pDelayResp Rules.pDelayRespFollowUp Rules.delayReq Rules.pDelayReq Rules.stamped Rules.delayTimerEnds Rules.syncTimerEnds Rules.onEvent Rules.onGeneral Rules.filtered Rules.stateSet
 runOf p [] = []
 runOf p (e ∷ es) =
     let r : Result = step p 64 e in

@@ -10,12 +10,11 @@ use Rattle.time.specs.Timers as Timers
 use Rattle.wire.specs.declared.MessageType.{MessageType}
 use Rattle.wire.specs.declared.MessageType.the-variants as M
 use Rattle.wire.specs.Layout.{row, typeOf, timestampOf, restIn, sdoId, twoStep, twoStepFlag}
-use Rattle.wire.specs.Reading.{readOf}
 use Rattle.wire.specs.declared.Rest.{Rest}
 use Rattle.wire.specs.declared.Rest.the-variants as Q
 use Rattle.record.specs.Record.{isMaster, isSlave}
 use Rattle.rules.specs.Names.{Body, Time, Header, Identity, Message, MaybeNanoseconds, Mechanism, Config, Port, Context, Action}
-use Rattle.rules.specs.Events.{Event, event, general, stamp, syncTimer, delayTimer, filterAnswer, setState}
+use Rattle.rules.specs.Events.{Event, event, general, stamp, syncTimer, delayTimer, filterAnswer, setState, reading}
 use Rattle.rules.specs.WorkedOut.{ofReading}
 use Rattle.rules.specs.Actions.{isTimer}
 
@@ -63,7 +62,7 @@ heardDue p at h (Body.PDelayRespFollowUp w requester) t = none
 
 -- 'Sync timer': a Master's Sync, with the next id. The general entry, the filter and a new state have nothing sent
 unfoldable pub due : Port → Event → Option Due
-due p (event at message) = ofReading none (heardDue p at) (readOf message)
+due p (event at message) = ofReading none (heardDue p at) (reading (p .config) message)
 due p (general message) = none
 due p (stamp at context) = stampDue p at context
 due p syncTimer = cond (isMaster (p .state)) (ownDue M.Sync (p .ids .sync) noTime) none

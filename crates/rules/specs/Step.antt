@@ -2,10 +2,9 @@
 use Prim.Native.Nat.{ℕ}
 use mathlib.Core.Bool.{Bool, cond}
 use Rattle.rules.specs.Names.{Reading, Time, Header, Body, Port, Config, Outcome}
-use Rattle.wire.specs.Reading.{readOf}
 use Rattle.record.specs.Fit.{unfit}
 use Rattle.rules.specs.Worked.{Worked, refused}
-use Rattle.rules.specs.Events.{Event, event, general, stamp, syncTimer, delayTimer, filterAnswer, setState, Done, Result, answered}
+use Rattle.rules.specs.Events.{Event, event, general, stamp, syncTimer, delayTimer, filterAnswer, setState, Done, Result, answered, reading}
 use Rattle.rules.specs.Table.{row1, row3, ours}
 use Rattle.rules.specs.Rules.{onEvent, onGeneral, stamped, syncTimerEnds, delayTimerEnds, filtered, stateSet}
 
@@ -21,8 +20,8 @@ viewed c Reading.Version rule = refused Outcome.Version
 viewed c Reading.Malformed rule = refused Outcome.Malformed
 
 unfoldable pub ruleOf : Port → Event → Worked Done
-ruleOf p (event at message) = viewed (p .config) (readOf message) (onEvent p at)
-ruleOf p (general message) = viewed (p .config) (readOf message) (onGeneral p)
+ruleOf p (event at message) = viewed (p .config) (reading (p .config) message) (onEvent p at)
+ruleOf p (general message) = viewed (p .config) (reading (p .config) message) (onGeneral p)
 ruleOf p (stamp at context) = stamped p at context
 ruleOf p syncTimer = syncTimerEnds p
 ruleOf p (delayTimer draw) = delayTimerEnds p draw

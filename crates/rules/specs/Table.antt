@@ -38,12 +38,12 @@ ofMessage test (filterAnswer update) = false
 ofMessage test (setState new) = false
 
 -- row 4: no version byte, or another version
-unfoldable pub row4 : Event → Bool
-row4 e = ofMessage Wire.row4 e
+unfoldable pub row4 : Config → Event → Bool
+row4 c e = ofMessage Wire.row4 e
 
 -- row 5: no whole header, a stated length that cannot be, a type that is none, or a body that is cut short
-unfoldable pub row5 : Event → Bool
-row5 e = ofMessage Wire.row5 e
+unfoldable pub row5 : Config → Event → Bool
+row5 c e = ofMessage Wire.row5 e
 
 -- row 6: for another domain, or another sdo id
 abbrev pub ours : Config → Header → Bool
@@ -58,8 +58,8 @@ hosts (Kind.Table t) = false
 hosts Kind.Host = true
 hosts Kind.Reserved = false
 
-unfoldable pub row8 : Event → Bool
-row8 e = ofMessage (λ message. hosts (Wire.kindIn message)) e
+unfoldable pub row8 : Config → Event → Bool
+row8 c e = ofMessage (λ message. hosts (Wire.kindIn message)) e
 
 -- ---- the rows one after another; the first that holds is the answer, and `Taken` where none does
 
@@ -68,10 +68,10 @@ table p room e =
     (row1 (p .config) e room, Outcome.Buffer)
     ∷ (unfit p, Outcome.Unfit)
     ∷ (row3 e, Outcome.Limits)
-    ∷ (row4 e, Outcome.Version)
-    ∷ (row5 e, Outcome.Malformed)
+    ∷ (row4 (p .config) e, Outcome.Version)
+    ∷ (row5 (p .config) e, Outcome.Malformed)
     ∷ (row6 (p .config) e, Outcome.Foreign)
-    ∷ (row8 e, Outcome.Host)
+    ∷ (row8 (p .config) e, Outcome.Host)
     ∷ (row7 p e, Outcome.Range)
     ∷ []
 

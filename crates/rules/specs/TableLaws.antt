@@ -107,7 +107,7 @@ module _ (p : Port) (fit : unfit p ≡ false) where
 
 -- ---- the table
 
-rule-rows : (p : Port) (e : Event) → unfit p ≡ false → row3 e ≡ false → BytesIn e → outcomeOf (ruleOf p e) ≡ firstHit ((row4 e, Outcome.Version) ∷ (row5 e, Outcome.Malformed) ∷ (row6 (p .config) e, Outcome.Foreign) ∷ (row8 e, Outcome.Host) ∷ (row7 p e, Outcome.Range) ∷ [])
+rule-rows : (p : Port) (e : Event) → unfit p ≡ false → row3 e ≡ false → BytesIn e → outcomeOf (ruleOf p e) ≡ firstHit ((row4 (p .config) e, Outcome.Version) ∷ (row5 (p .config) e, Outcome.Malformed) ∷ (row6 (p .config) e, Outcome.Foreign) ∷ (row8 (p .config) e, Outcome.Host) ∷ (row7 p e, Outcome.Range) ∷ [])
 unfolding ruleOf row3 row4 row5 row6 row8 row7 workedOut sumsOf filtered stateSet
 rule-rows p (event at message) fit limits b = message-rows p message b (onEvent p at) (eventSums p at) (event-judged p (fit-open p fit) at)
 rule-rows p (general message) fit limits b = message-rows p message b (onGeneral p) (laterSums p) (later-judged p (fit-open p fit))

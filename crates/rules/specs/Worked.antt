@@ -32,11 +32,11 @@ unfoldable pub plusCorrection : Time → Header → Worked Time
 plusCorrection t h = aTime (timeOf (time t +ℤ correction (h .correction)))
 
 -- from the second time to the first
-unfoldable pub between : Time → Time → Worked Duration
-between a b = aDuration (durationOf (time a -ℤ time b))
+unfoldable pub elapsed : Time → Time → Worked Duration
+elapsed a b = aDuration (durationOf (time a -ℤ time b))
 
-unfoldable pub less : Duration → Duration → Worked Duration
-less a b = aDuration (durationOf (duration a -ℤ duration b))
+unfoldable pub lessDuration : Duration → Duration → Worked Duration
+lessDuration a b = aDuration (durationOf (duration a -ℤ duration b))
 
 -- ---- sent messages: 7 where a field leaves its range
 

@@ -7,12 +7,11 @@ use lib.IntN.{ℤ, pos, natAbs, _+ℤ_, _-ℤ_}
 use Rattle.rules.specs.Names.{Body, Reading, Time, Identity, Header, MaybeTime, MaybeDuration, MaybeIdentity, Exchange, PortState, PeerState, Port, Context}
 use Rattle.time.specs.Units.{within, time, inTime, duration, inDuration, signed, correction}
 use Rattle.wire.specs.Layout.{twoStep}
-use Rattle.wire.specs.Reading.{readOf}
 use Rattle.sent.specs.Messages.{inCorrection}
 use Rattle.record.specs.Record.{isMaster, asSlave}
 use Rattle.record.specs.Fit.{there}
 use Rattle.record.specs.Same.{sameIdentity}
-use Rattle.rules.specs.Events.{Event, event, general, stamp, syncTimer, delayTimer, filterAnswer, setState}
+use Rattle.rules.specs.Events.{Event, event, general, stamp, syncTimer, delayTimer, filterAnswer, setState, reading}
 
 -- ---- a number and its range: a time, a duration, 48-bit seconds, a 64-bit correction
 
@@ -37,7 +36,7 @@ outside ((r ∋ z) ∷ ns) = not (inRange r z) || outside ns
 
 -- the exchange that an event completes, with its times
 pub data Completed : Type 0 where
-  none : Completed
+  unfinished : Completed
   sync : ℤ → ℤ → Completed  -- send, receive
   delay : ℤ → ℤ → Completed  -- send, receive
   peer : ℤ → ℤ → ℤ → ℤ → Completed  -- of the request: send, receive; of the response: send, receive
@@ -67,7 +66,7 @@ ifThere (MaybeDuration.Some d) f = (durations ∋ f (duration d)) ∷ []
 
 -- each difference by itself: reading 12
 abbrev pub numbersOf : Port → Completed → List Number
-numbersOf p none = []
+numbersOf p unfinished = []
 numbersOf p (sync send receive) =
     (durations ∋ receive -ℤ send)
     ∷ (durations ∋ rawSync p send receive)
@@ -152,10 +151,10 @@ pub record Sums : Type 0 where
   pub completes : Completed
 
 abbrev pub noSums : Sums
-noSums = record { numbers = []; completes = none }
+noSums = record { numbers = []; completes = unfinished }
 
 abbrev pub held : MaybeTime → (ℤ → Completed) → Completed
-held MaybeTime.None k = none
+held MaybeTime.None k = unfinished
 held (MaybeTime.Some t) k = k (time t)
 
 -- a corrected time, and what the exchange then is
@@ -169,8 +168,8 @@ syncSums p h origin receive =
     cond (hears (p .state) h)
     (corrected receive
     (cond (twoStep h)
-    (cond (opened (h .id) x && not (there (receiveIn x))) (held (sendIn x) (λ send. sync send receive)) none)
-    (cond (opened (h .id) x) none (sync origin receive))))
+    (cond (opened (h .id) x && not (there (receiveIn x))) (held (sendIn x) (λ send. sync send receive)) unfinished)
+    (cond (opened (h .id) x) unfinished (sync origin receive))))
     noSums
 
 -- FollowUp: timestamp plus correction
@@ -178,7 +177,7 @@ abbrev pub followUpSums : Port → Header → ℤ → Sums
 followUpSums p h send =
     let x : Exchange = syncIn (p .state) in
     cond (hears (p .state) h)
-    (corrected send (cond (opened (h .id) x && not (there (sendIn x))) (held (receiveIn x) (λ receive. sync send receive)) none))
+    (corrected send (cond (opened (h .id) x && not (there (sendIn x))) (held (receiveIn x) (λ receive. sync send receive)) unfinished))
     noSums
 
 -- DelayResp: timestamp less correction, only where it is stored
@@ -232,7 +231,7 @@ abbrev pub lessF : Header → Time → Number
 lessF h t = corrections ∋ signed 64 (h .correction) -ℤ pos (natAbs (time t) % 2 ^ 32 / 2 ^ 16)
 
 abbrev pub sentFields : List Number → Sums
-sentFields ns = record { numbers = ns; completes = none }
+sentFields ns = record { numbers = ns; completes = unfinished }
 
 -- ---- by event
 
@@ -267,8 +266,8 @@ stampSums p t (Context.PDelayReq id) = peerStampSums p id (time t)
 stampSums p t (Context.PDelayResp id requester) = sentFields (secondsOf t ∷ [])
 
 unfoldable pub sumsOf : Port → Event → Sums
-sumsOf p (event at message) = ofReading noSums (eventSums p at) (readOf message)
-sumsOf p (general message) = ofReading noSums (laterSums p) (readOf message)
+sumsOf p (event at message) = ofReading noSums (eventSums p at) (reading (p .config) message)
+sumsOf p (general message) = ofReading noSums (laterSums p) (reading (p .config) message)
 sumsOf p (stamp at context) = stampSums p at context
 sumsOf p syncTimer = noSums
 sumsOf p (delayTimer draw) = noSums
