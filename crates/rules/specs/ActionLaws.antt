@@ -14,12 +14,12 @@ use Rattle.rules.specs.Names.{Time, Header, Identity, Body, Message, Mes
 use Rattle.record.specs.Record.{isFaulty, withSync, withDelay, withState, withSlave, withPeer}
 use Rattle.rules.specs.Worked.{worked}
 use Rattle.rules.specs.Events.{Event, Done, Result, answered, refusal, sending, timed}
-use Rattle.rules.specs.Measuring.{settle}
+use Rattle.rules.specs.Measuring.{settle, syncOut, delayOut, peerOut}
 use Rattle.rules.specs.Rules.{senderOf, filtered, meanGiven, updateGiven, stateSet, stateOf}
 use Rattle.rules.specs.Step.{ruleOf, step}
 use Rattle.rules.specs.Actions.{isEmpty, oneIs, timersFirst, packetsIn, isOneOf, sendingOf, packetFor}
 use Rattle.rules.specs.AllLaws.{Silent, All, all-is}
-use Rattle.rules.specs.RuleLaws.{syncOut, delayOut, peerOut, all-settle}
+use Rattle.rules.specs.RuleLaws.{all-settle}
 use Rattle.rules.specs.EveryLaws.{silent, Every, every-rule}
 use Rattle.rules.specs.RefusalLaws.{IsTaken, step-has}
 

@@ -8,13 +8,13 @@ use Rattle.record.specs.Record.{isMaster, isSlave, withSync, withDelay, withSla
 use Rattle.rules.specs.Names.{Identity, MaybeDuration, MaybeMeasurement, Exchange, SlaveState, PortState, Port, NewState, Outcome}
 use Rattle.rules.specs.Worked.{worked}
 use Rattle.rules.specs.Events.{Event, event, general, stamp, syncTimer, delayTimer, filterAnswer, setState, Done, Result, answered}
-use Rattle.rules.specs.Measuring.{settle}
+use Rattle.rules.specs.Measuring.{settle, syncOut, delayOut, peerOut}
 use Rattle.rules.specs.Rules.{filtered, meanGiven, stateSet, stateOf}
 use Rattle.rules.specs.WorkedOut.{syncIn, delayIn, lastRaw}
 use Rattle.rules.specs.Changes.{requestIds, idsAfter, lastGiven, meanAfter}
 use Rattle.rules.specs.Step.{ruleOf, step}
 use Rattle.rules.specs.AllLaws.{All, Silent}
-use Rattle.rules.specs.RuleLaws.{syncOut, delayOut, peerOut, all-settle, all-syncTimerEnds, all-delayTimerEnds}
+use Rattle.rules.specs.RuleLaws.{all-settle, all-syncTimerEnds, all-delayTimerEnds}
 use Rattle.rules.specs.EveryLaws.{silent, Heard, heard-event-rule, heard-general-rule, heard-stamp-rule}
 use Rattle.rules.specs.RefusalLaws.{taken-has}
 

@@ -10,11 +10,11 @@ use Rattle.record.specs.Record.{withSync, withDelay, withSlave, withPeer}
 use Rattle.rules.specs.Worked.{Worked, refused}
 use Rattle.rules.specs.Events.{Event, event, general, stamp, syncTimer, delayTimer, filterAnswer, setState, Done, changed, sending}
 use Rattle.rules.specs.Measuring.{settle}
-use Rattle.rules.specs.Rules.{senderOf, becomesFaulty, onEvent, onGeneral, stamped, filtered, stateSet}
+use Rattle.rules.specs.Rules.{senderOf, becomesFaulty, onEvent, onGeneral, stamped, filtered, stateSet, syncSent, delaySent, peerSent}
 use Rattle.rules.specs.Table.{ours}
 use Rattle.rules.specs.Step.{viewed, ruleOf}
 use Rattle.rules.specs.AllLaws.{Comes, Silent, all-cond}
-use Rattle.rules.specs.RuleLaws.{syncSent, delaySent, peerSent, all-sync, all-followUp, all-delayResp, all-pDelayResp, all-pDelayRespFollowUp, all-delayReq, all-pDelayReq, all-syncStamped, all-delayStamped, all-peerStamped, all-responseStamped, all-syncTimerEnds, all-delayTimerEnds}
+use Rattle.rules.specs.RuleLaws.{all-sync, all-followUp, all-delayResp, all-pDelayResp, all-pDelayRespFollowUp, all-delayReq, all-pDelayReq, all-syncStamped, all-delayStamped, all-peerStamped, all-responseStamped, all-syncTimerEnds, all-delayTimerEnds}
 
 -- ---- what refuses an event behind row 3
 

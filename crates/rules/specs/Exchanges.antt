@@ -93,12 +93,16 @@ secondResponder h (PeerState.Measuring held responder requestSend requestReceive
 secondResponder h (PeerState.Measured held responder) = eqb held (h .id) && another (MaybeIdentity.Some responder) (h .source)
 
 -- the response, once, while its request is measuring. It brings two times, and one-step a third, the request's receive time again, which wins over what a follow-up may have brought
+abbrev pub withResponse : Header → Time → ℕ → MaybeTime → MaybeTime → Time → PeerState
+withResponse h body held requestSend responseSend t =
+    PeerState.Measuring held (MaybeIdentity.Some (h .source)) requestSend (MaybeTime.Some body) (cond (twoStep h) responseSend (MaybeTime.Some body)) (MaybeTime.Some t)
+
 unfoldable pub responded : Header → Time → Worked Time → PeerState → Worked (Change PeerState)
 responded h body sum PeerState.Empty = worked stays
 responded h body sum (PeerState.Measuring held responder requestSend requestReceive responseSend responseReceive) =
     cond (eqb held (h .id))
     (cond (there responseReceive) (worked stays) (sum then λ t.
-    worked (becomes (PeerState.Measuring held (MaybeIdentity.Some (h .source)) requestSend (MaybeTime.Some body) (cond (twoStep h) responseSend (MaybeTime.Some body)) (MaybeTime.Some t)))))
+    worked (becomes (withResponse h body held requestSend responseSend t))))
     (worked stays)
 responded h body sum (PeerState.Measured held responder) = worked stays
 

@@ -8,7 +8,7 @@ use Rattle.wire.specs.Reading.{readOf}
 use Rattle.record.specs.Record.{stateNumber, isFaulty, asSlave}
 use Rattle.rules.specs.Names.{Time, Header, Body, Reading, MaybeDuration, SlaveState, PortState, Mechanism, Port, Context, NewState, Outcome}
 use Rattle.rules.specs.Worked.{Worked, worked, refused}
-use Rattle.rules.specs.Events.{Event, event, general, stamp, syncTimer, delayTimer, filterAnswer, setState, Done, Result, answered, changed, nothing}
+use Rattle.rules.specs.Events.{Event, event, general, stamp, syncTimer, delayTimer, filterAnswer, setState, Done, Result, answered, changed}
 use Rattle.rules.specs.Rules.{stamped, delayTimerEnds, onEvent, onGeneral, filtered, meanGiven, stateSet, stateOf}
 use Rattle.rules.specs.Rules as Rules
 use Rattle.rules.specs.WorkedOut.{ofReading, sumsOf}

@@ -15,7 +15,7 @@ use Rattle.rules.specs.Names.{TimeAnswer, DurationAnswer, Time, Duration
 use Rattle.rules.specs.Worked.{Worked, _then_, aTime, aDuration, lessCorrection, plusCorrection, elapsed, lessDuration}
 use Rattle.rules.specs.Events.{Done, nothing}
 use Rattle.rules.specs.Exchanges.{stays, becomes, received, atOnce, sentAt, twoStepSync, oneStepSync, synced, followedUp}
-use Rattle.rules.specs.Measuring.{lessMean, complete, measureSync}
+use Rattle.rules.specs.Measuring.{lessMean, complete, measureSync, measured, syncOut}
 use Rattle.rules.specs.Rules.{keeping, followUp}
 use Rattle.rules.specs.Rules as Rules
 use Rattle.rules.specs.WorkedOut.{Completed, unfinished, sync, asymmetry, rawSync, opened, sendIn, receiveIn, held, noSums, corrected, syncSums, followUpSums}
@@ -24,7 +24,6 @@ use Rattle.rules.specs.AgreeLaws.{by-test}
 use Rattle.rules.specs.SettleLaws.{settle-sync}
 use Rattle.rules.specs.SumsLaws.{Open}
 use Rattle.rules.specs.AllLaws.{All, Silent, all-then, all-silent}
-use Rattle.rules.specs.RuleLaws.{measured, syncOut}
 
 -- ---- what is said of a rule: the peer exchange is this, and a Slave is that one
 

@@ -14,12 +14,12 @@ use Rattle.record.specs.Record.{withState, withPeer, withIds}
 use Rattle.rules.specs.Names.{Time, Duration, Identity, Header, Body, Reading, MaybeTime, MaybeIdentity, Mechanism, PeerState, Port, Context, Measurement, MaybeMeasurement}
 use Rattle.rules.specs.Worked.{worked}
 use Rattle.rules.specs.Events.{Event, event, stamp, delayTimer, Result, answered}
-use Rattle.rules.specs.Measuring.{recovered}
+use Rattle.rules.specs.Measuring.{recovered, peerOut}
 use Rattle.rules.specs.Exchanges.{peerRequested}
 use Rattle.rules.specs.Rules.{peerIdTaken}
 use Rattle.rules.specs.Step.{ruleOf, step}
 use Rattle.rules.specs.AllLaws.{All, Silent}
-use Rattle.rules.specs.RuleLaws.{peerOut, all-delayTimerEnds}
+use Rattle.rules.specs.RuleLaws.{all-delayTimerEnds}
 use Rattle.rules.specs.RefusalLaws.{taken-has}
 use Rattle.rules.specs.LinearLaws.{num, _⊕_, _⊖_, equal-sums}
 use Rattle.rules.specs.Ieee.{WireFields, Pdelays, meanLinkDelay}

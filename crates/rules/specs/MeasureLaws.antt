@@ -7,12 +7,11 @@ use lib.IntN.{ℤ, _-ℤ_}
 use Rattle.rules.specs.Names.{Time, Duration, Identity, MaybeDuration, Exchange, SlaveState, PeerState, Port, Measurement}
 use Rattle.time.specs.Units.{time, duration, half, halfOf}
 use Rattle.record.specs.Record.{withSlave, withSync, withDelay, withPeer, isFaulty}
-use Rattle.rules.specs.Worked.{Worked, elapsed, lessDuration}
+use Rattle.rules.specs.Worked.{Worked, worked, elapsed, lessDuration}
 use Rattle.rules.specs.Events.{Done}
-use Rattle.rules.specs.Measuring.{measuring, measureSync, measureDelay, measurePeer}
+use Rattle.rules.specs.Measuring.{measureSync, measureDelay, measurePeer, measured, syncOut, delayOut, peerOut}
 use Rattle.rules.specs.WorkedOut.{Completed, Sums, sync, delay, peer, rawSync, rawDelay, peerTwice, peerOpened, numbersOf, asymmetry}
 use Rattle.rules.specs.Formulas.{Says, GivenBy}
-use Rattle.rules.specs.RuleLaws.{measured, syncOut, delayOut, peerOut}
 use Rattle.rules.specs.AgreeLaws.{Agrees, agrees-duration, agrees-mean, agrees-half, half-means}
 
 -- what is done about an exchange is as 01 says it
@@ -35,7 +34,7 @@ module _ (p : Port) (s : SlaveState) (x : Exchange) (send receive : Time) where
       let r : ℤ = rawSync p (time send) (time receive) in
       agrees-duration a _ S _ a refl (λ d i.
       agrees-duration r _ S _ (duration d -ℤ asymmetry p) (ap (λ (y : ℤ). y -ℤ asymmetry p) (i .value)) (λ raw j.
-      agrees-mean (p .mean) raw r (j .value) S (λ o. measuring (syncOut p s raw) (Measurement.Sync receive raw o) false) (λ o g. (refl, f raw o (j .value) g))))
+      agrees-mean (p .mean) raw r (j .value) S (λ o. worked (measured (syncOut p s raw) (Measurement.Sync receive raw o) false)) (λ o g. (refl, f raw o (j .value) g))))
 
   pub sync-judged : Judged before (sync (time send) (time receive)) (measureSync (withSlave p (withSync s x)) (withSync s x) send receive)
   sync-judged =
@@ -49,7 +48,7 @@ module _ (p : Port) (s : SlaveState) (x : Exchange) (send receive : Time) where
       let r : ℤ = rawDelay p (time send) (time receive) in
       agrees-duration a _ S _ a refl (λ d i.
       agrees-duration r _ S _ (duration d -ℤ asymmetry p) (ap (λ (y : ℤ). y -ℤ asymmetry p) (i .value)) (λ raw j.
-      agrees-half (s .raw) raw r (j .value) S (λ o. measuring (delayOut p s) (Measurement.Delay send raw o) false) (λ o g. (refl, f raw o (j .value) g))))
+      agrees-half (s .raw) raw r (j .value) S (λ o. worked (measured (delayOut p s) (Measurement.Delay send raw o) false)) (λ o g. (refl, f raw o (j .value) g))))
 
   pub delay-judged : Judged before (delay (time send) (time receive)) (measureDelay (withSlave p (withDelay s x)) (withDelay s x) send receive)
   delay-judged =

@@ -35,9 +35,9 @@ peerComplete (PeerState.Measured id responder) missing k = missing
 
 -- ---- what it measures
 
-abbrev pub measuring : Port → Measurement → Bool → Worked Done
-measuring p m reset =
-    worked (record { port = p; measurement = MaybeMeasurement.Some m; message = none; actions = []; reset = reset })
+abbrev pub measured : Port → Measurement → Bool → Done
+measured p m reset =
+    record { port = p; measurement = MaybeMeasurement.Some m; message = none; actions = []; reset = reset }
 
 -- the offset, where there is a mean delay to take off
 abbrev pub lessMean : Duration → MaybeDuration → Worked MaybeDuration
@@ -45,12 +45,15 @@ lessMean raw MaybeDuration.None = worked MaybeDuration.None
 lessMean raw (MaybeDuration.Some mean) = lessDuration raw mean then λ offset. worked (MaybeDuration.Some offset)
 
 -- Sync: what passed from send to receive, less the asymmetry, at the receive time; it is kept for the delay
+abbrev pub syncOut : Port → SlaveState → Duration → Port
+syncOut p s raw = withSlave p (withRaw (withSync s Exchange.Empty) raw)
+
 unfoldable pub measureSync : Port → SlaveState → Time → Time → Worked Done
 measureSync p s send receive =
     elapsed receive send then λ apart.
     lessDuration apart (p .config .asymmetry) then λ raw.
     lessMean raw (p .mean) then λ offset.
-    measuring (withSlave p (withRaw (withSync s Exchange.Empty) raw)) (Measurement.Sync receive raw offset) false
+    worked (measured (syncOut p s raw) (Measurement.Sync receive raw offset) false)
 
 -- the delay, where a raw sync offset is kept
 abbrev pub halfBelow : MaybeDuration → Duration → Worked MaybeDuration
@@ -58,24 +61,30 @@ halfBelow MaybeDuration.None raw = worked MaybeDuration.None
 halfBelow (MaybeDuration.Some last) raw = lessDuration last raw then λ twice. worked (MaybeDuration.Some (halfOf twice))
 
 -- Delay: from receive to send, less the asymmetry, at the send time
+abbrev pub delayOut : Port → SlaveState → Port
+delayOut p s = withSlave p (withDelay s Exchange.Empty)
+
 unfoldable pub measureDelay : Port → SlaveState → Time → Time → Worked Done
 measureDelay p s send receive =
     elapsed send receive then λ apart.
     lessDuration apart (p .config .asymmetry) then λ raw.
     halfBelow (s .raw) raw then λ delay.
-    measuring (withSlave p (withDelay s Exchange.Empty)) (Measurement.Delay send raw delay) false
+    worked (measured (delayOut p s) (Measurement.Delay send raw delay) false)
 
 -- Faulty becomes Listening
 abbrev pub recovered : PortState → PortState
 recovered state = cond (isFaulty state) PortState.Listening state
 
 -- Peer: half of what is left of the whole turn without the responder's stay, when the response came. The request stays known as measured; a Faulty port recovers, and the filter with it
+abbrev pub peerOut : Port → ℕ → Identity → Port
+peerOut p id responder = withState (withPeer p (PeerState.Measured id responder)) (recovered (p .state))
+
 unfoldable pub measurePeer : Port → ℕ → Identity → Time → Time → Time → Time → Worked Done
 measurePeer p id responder requestSend requestReceive responseSend responseReceive =
     elapsed responseReceive requestSend then λ turn.
     elapsed responseSend requestReceive then λ stay.
     lessDuration turn stay then λ twice.
-    measuring (withState (withPeer p (PeerState.Measured id responder)) (recovered (p .state))) (Measurement.Peer responseReceive (halfOf twice)) (isFaulty (p .state))
+    worked (measured (peerOut p id responder) (Measurement.Peer responseReceive (halfOf twice)) (isFaulty (p .state)))
 
 -- ---- the exchange that an event left complete, in the Rust's order; a record that was fit has no other (`FitnessLaws`)
 unfoldable pub settle : Port → Worked Done

@@ -14,14 +14,13 @@ use Rattle.record.specs.SameLaws.{same-identity}
 use Rattle.rules.specs.Names.{Time, Duration, Identity, Header, Body, Reading, MaybeTime, MaybeIdentity, PeerState, Port, Context, Measurement}
 use Rattle.rules.specs.Worked.{Worked, worked, _then_, lessCorrection, plusCorrection}
 use Rattle.rules.specs.Events.{Event, event, stamp, Done, Result, answered, nothing}
-use Rattle.rules.specs.Measuring.{settle}
+use Rattle.rules.specs.Measuring.{settle, measured, peerOut}
 use Rattle.rules.specs.Exchanges.{Change, stays, becomes, another, peerStamped, secondResponder, responded, respondedLater}
 use Rattle.rules.specs.Rules.{keeping, becomesFaulty, peerAnswer, pDelayResp, pDelayRespFollowUp, stamped, onEvent, onGeneral}
 use Rattle.rules.specs.Step.{ruleOf}
 use Rattle.rules.specs.WorkedOut.{Completed, peerTwice, numbersOf}
 use Rattle.rules.specs.AgreeLaws.{agrees-all, then-then}
 use Rattle.rules.specs.AllLaws.{All}
-use Rattle.rules.specs.RuleLaws.{measured, peerOut}
 use Rattle.rules.specs.MeasureLaws.{peer-agrees}
 use Rattle.rules.specs.TakenLaws.{Brings, event-rule, brought-rule}
 use Rattle.rules.specs.RunLaws.{Turns, turns, peerPart, less-worth, plus-worth}

@@ -2,55 +2,21 @@
 use mathlib.Core.Path.{_≡_, refl, ap, _∙_}
 use mathlib.Core.Bool.{Bool, true, false, cond}
 use lib.Dec.{eqb}
-use mathlib.Core.List.{[], _∷_}
-use mathlib.Core.Option.{none}
+use mathlib.Core.List.{[]}
 use Prim.Native.Nat.{ℕ}
-use Rattle.rules.specs.Names.{Time, Duration, Header, Identity, Message, MessageAnswer, TimerAnswer, MaybeTime, MaybeIdentity, MaybeDuration, MaybeMeasurement, Measurement, Exchange, SlaveState, PortState, PeerState, Port, Mechanism, Context, Action, Outcome}
+use Rattle.rules.specs.Names.{Time, Duration, Header, Identity, Message, MessageAnswer, TimerAnswer, MaybeTime, MaybeIdentity, MaybeDuration, Measurement, Exchange, SlaveState, PortState, PeerState, Port, Mechanism, Context, Action, Outcome}
 use Rattle.time.specs.Units.{halfOf}
 use Rattle.time.specs.Timers.{syncTimerOf, delayTimerOf}
-use Rattle.sent.specs.Messages.{syncOf, followUpOf, delayReqOf, delayRespOf, pDelayReqOf, pDelayRespOf, pDelayRespFollowUpOf}
-use Rattle.record.specs.Record.{isMaster, isFaulty, isSlave, withSync, withDelay, withRaw, withState, withSlave, withPeer, withIds}
+use Rattle.sent.specs.Messages.{followUpOf, delayRespOf, pDelayRespOf, pDelayRespFollowUpOf}
+use Rattle.record.specs.Record.{isMaster, isFaulty, isSlave, withSync, withDelay, withSlave, withPeer}
 use Rattle.record.specs.Fit.{there}
-use Rattle.wire.specs.Layout.{twoStep}
 use Rattle.record.specs.Same.{sameIdentity}
 use Rattle.rules.specs.Worked.{Worked, worked, _then_, lessCorrection, plusCorrection, elapsed, lessDuration}
 use Rattle.rules.specs.Events.{Done, nothing, changed, sending}
-use Rattle.rules.specs.Measuring.{lessMean, halfBelow, recovered, measureSync, measureDelay, measurePeer, settle}
-use Rattle.rules.specs.Exchanges.{Change, stays, becomes, synced, followedUp, delayAnswered, delayStamped, requested, peerRequested, peerStamped, secondResponder, responded, respondedLater}
-use Rattle.rules.specs.Rules.{senderOf, fromMaster, becomesFaulty, sync, followUp, delayResp, peerAnswer, pDelayResp, pDelayRespFollowUp, delayReq, pDelayReq, stamped, syncIdTaken, delayIdTaken, peerIdTaken, request, delayTimerEnds, syncTimerEnds}
+use Rattle.rules.specs.Measuring.{measured, syncOut, delayOut, peerOut, lessMean, halfBelow, measureSync, measureDelay, measurePeer, settle}
+use Rattle.rules.specs.Exchanges.{Change, stays, becomes, synced, followedUp, delayAnswered, delayStamped, peerStamped, secondResponder, withResponse, responded, respondedLater}
+use Rattle.rules.specs.Rules.{syncSent, delaySent, peerSent, senderOf, fromMaster, becomesFaulty, sync, followUp, delayResp, peerAnswer, pDelayResp, pDelayRespFollowUp, delayReq, pDelayReq, stamped, request, delayTimerEnds, syncTimerEnds}
 use Rattle.rules.specs.AllLaws.{Comes, Anything, all-then, all-cond, all-asSlave, all-complete, all-peerComplete, all-kept, all-sent, all-timed, all-lessCorrection, all-plusCorrection, all-between, all-less}
-
--- ---- a measurement
-
-abbrev pub measured : Port → Measurement → Bool → Done
-measured p m reset =
-    record { port = p; measurement = MaybeMeasurement.Some m; message = none; actions = []; reset = reset }
-
-abbrev pub syncOut : Port → SlaveState → Duration → Port
-syncOut p s raw = withSlave p (withRaw (withSync s Exchange.Empty) raw)
-
-abbrev pub delayOut : Port → SlaveState → Port
-delayOut p s = withSlave p (withDelay s Exchange.Empty)
-
-abbrev pub peerOut : Port → ℕ → Identity → Port
-peerOut p id i = withState (withPeer p (PeerState.Measured id i)) (recovered (p .state))
-
--- ---- a request, and a Sync
-
-abbrev pub syncSent : Port → ℕ → Done
-syncSent p ns =
-    sending (withIds p (syncIdTaken (p .ids))) (Action.ResetSyncTimer ns ∷ [])
-    (syncOf (senderOf (p .config)) (p .ids .sync) (p .config .«sync_interval»)) (Action.SendEvent (Context.Sync (p .ids .sync)) false)
-
-abbrev pub delaySent : Port → SlaveState → ℕ → Done
-delaySent p s ns =
-    sending (withIds (withSlave p (withDelay s (requested (p .ids .delay)))) (delayIdTaken (p .ids))) (Action.ResetDelayRequestTimer ns ∷ [])
-    (delayReqOf (senderOf (p .config)) (p .ids .delay)) (Action.SendEvent (Context.DelayReq (p .ids .delay)) false)
-
-abbrev pub peerSent : Port → ℕ → Done
-peerSent p ns =
-    sending (withIds (withPeer p (peerRequested (p .ids .peer))) (peerIdTaken (p .ids))) (Action.ResetDelayRequestTimer ns ∷ [])
-    (pDelayReqOf (senderOf (p .config)) (p .ids .peer)) (Action.SendEvent (Context.PDelayReq (p .ids .peer)) true)
 
 -- ---- the measurements
 
@@ -120,7 +86,7 @@ module _ (R : Outcome → Type 0) (sum : Worked Time) (s : Comes Anything R sum)
   all-responded h body PeerState.Empty = tt
   all-responded h body (PeerState.Measuring held r a b c d) =
       all-stored (eqb held (h .id)) (there d)
-      (λ t. PeerState.Measuring held (MaybeIdentity.Some (h .source)) a (MaybeTime.Some body) (cond (twoStep h) c (MaybeTime.Some body)) (MaybeTime.Some t))
+      (withResponse h body held a c)
   all-responded h body (PeerState.Measured held r) = tt
 
   all-respondedLater : (h : Header) (q : PeerState) → Comes Anything R (respondedLater h sum q)

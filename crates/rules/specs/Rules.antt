@@ -106,28 +106,40 @@ delayIdTaken i = record { sync = i .sync; delay = idAfter (i .delay); peer = i .
 abbrev pub peerIdTaken : Ids → Ids
 peerIdTaken i = record { sync = i .sync; delay = i .delay; peer = idAfter (i .peer) }
 
+abbrev pub delaySent : Port → SlaveState → ℕ → Done
+delaySent p s ns =
+    sending (withIds (withSlave p (withDelay s (requested (p .ids .delay)))) (delayIdTaken (p .ids))) (Action.ResetDelayRequestTimer ns ∷ [])
+    (delayReqOf (senderOf (p .config)) (p .ids .delay)) (Action.SendEvent (Context.DelayReq (p .ids .delay)) false)
+
+abbrev pub peerSent : Port → ℕ → Done
+peerSent p ns =
+    sending (withIds (withPeer p (peerRequested (p .ids .peer))) (peerIdTaken (p .ids))) (Action.ResetDelayRequestTimer ns ∷ [])
+    (pDelayReqOf (senderOf (p .config)) (p .ids .peer)) (Action.SendEvent (Context.PDelayReq (p .ids .peer)) true)
+
 abbrev pub request : Port → ℕ → Mechanism → Worked Done
 request p draw Mechanism.EndToEnd =
     asSlave (p .state) (nothing p) (λ s.
     aTimer (delayTimerOf (p .config .«delay_interval») draw) then λ ns.
-    worked (sending (withIds (withSlave p (withDelay s (requested (p .ids .delay)))) (delayIdTaken (p .ids)))
-    (Action.ResetDelayRequestTimer ns ∷ []) (delayReqOf (senderOf (p .config)) (p .ids .delay)) (Action.SendEvent (Context.DelayReq (p .ids .delay)) false)))
+    worked (delaySent p s ns))
 request p draw Mechanism.Peer =
     aTimer (delayTimerOf (p .config .«delay_interval») draw) then λ ns.
-    worked (sending (withIds (withPeer p (peerRequested (p .ids .peer))) (peerIdTaken (p .ids)))
-    (Action.ResetDelayRequestTimer ns ∷ []) (pDelayReqOf (senderOf (p .config)) (p .ids .peer)) (Action.SendEvent (Context.PDelayReq (p .ids .peer)) true))
+    worked (peerSent p ns)
 
 unfoldable pub delayTimerEnds : Port → ℕ → Worked Done
 delayTimerEnds p draw = request p draw (p .config .mechanism)
 
 -- ---- a Master's Sync, when its timer has run out
 
+abbrev pub syncSent : Port → ℕ → Done
+syncSent p ns =
+    sending (withIds p (syncIdTaken (p .ids))) (Action.ResetSyncTimer ns ∷ [])
+    (syncOf (senderOf (p .config)) (p .ids .sync) (p .config .«sync_interval»)) (Action.SendEvent (Context.Sync (p .ids .sync)) false)
+
 unfoldable pub syncTimerEnds : Port → Worked Done
 syncTimerEnds p =
     cond (isMaster (p .state))
     (aTimer (syncTimerOf (p .config .«sync_interval»)) then λ ns.
-    worked (sending (withIds p (syncIdTaken (p .ids)))
-    (Action.ResetSyncTimer ns ∷ []) (syncOf (senderOf (p .config)) (p .ids .sync) (p .config .«sync_interval»)) (Action.SendEvent (Context.Sync (p .ids .sync)) false)))
+    worked (syncSent p ns))
     (nothing p)
 
 -- ---- which rule a message goes to: all seven types have one on the event entry, and types 8 to 10 the same on the general one

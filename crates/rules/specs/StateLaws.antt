@@ -13,7 +13,7 @@ use Rattle.record.specs.FitLaws.{IsFit, fit-is}
 use Rattle.rules.specs.Names.{Time, Header, Identity, Body, MaybeDuration, Exchange, SlaveState, PortState, PeerState, Port, Context, NewState, Outcome, Reading}
 use Rattle.rules.specs.Worked.{Worked, worked, refused, lessCorrection, plusCorrection}
 use Rattle.rules.specs.Events.{Event, event, general, stamp, syncTimer, delayTimer, filterAnswer, setState, Done, Result, answered, changed}
-use Rattle.rules.specs.Measuring.{recovered, settle}
+use Rattle.rules.specs.Measuring.{recovered, settle, measured, peerOut}
 use Rattle.rules.specs.Exchanges.{Change, stays, becomes, secondResponder, responded, respondedLater, peerStamped}
 use Rattle.rules.specs.Rules.{sync, followUp, delayResp, delayReq, pDelayReq, peerAnswer, pDelayResp, pDelayRespFollowUp, onEvent, onGeneral, stamped, filtered, meanGiven, stateSet, stateOf}
 use Rattle.rules.specs.WorkedOut.{Completed, Sums, noSums, corrected, differs, answeredBy, second, peerOpened, requestSendIn, responseReceiveIn, responseSendIn, laterSums, eventSums, stampSums, ofReading, sumsOf}
@@ -21,7 +21,7 @@ use Rattle.rules.specs.Changes.{secondByFollowUp, secondByAnswer, second
 use Rattle.rules.specs.Table.{ours}
 use Rattle.rules.specs.Step.{viewed, ruleOf, step}
 use Rattle.rules.specs.AllLaws.{All, Silent, peerDone, all-is, all-map, all-cond, all-silent}
-use Rattle.rules.specs.RuleLaws.{measured, peerOut, all-sync, all-followUp, all-delayResp, all-peerAnswer, all-delayReq, all-pDelayReq, all-syncStamped, all-delayStamped, all-peerStamped, all-responseStamped, all-syncTimerEnds, all-delayTimerEnds}
+use Rattle.rules.specs.RuleLaws.{all-sync, all-followUp, all-delayResp, all-peerAnswer, all-delayReq, all-pDelayReq, all-syncStamped, all-delayStamped, all-peerStamped, all-responseStamped, all-syncTimerEnds, all-delayTimerEnds}
 use Rattle.rules.specs.StoringLaws.{sync-open, delay-open, slave-fit, all-settle-sync, all-settle-delay, all-settle-peer}
 use Rattle.rules.specs.PeerLaws.{second-same}
 use Rattle.rules.specs.CompletingLaws.{becoming, responseCompletes, response-completes, followUpCompletes, follow-up-completes, stampCompletes, stamp-completes, behind, gated, sync-not-peer, follow-up-not-peer, delay-resp-not-peer, delay-stamp-not-peer}

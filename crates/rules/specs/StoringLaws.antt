@@ -9,10 +9,10 @@ use Rattle.record.specs.FitLaws.{FitSync, FitDelay, FitState}
 use Rattle.rules.specs.Names.{Duration, Identity, MaybeTime, Measurement, Exchange, SlaveState, PortState, PeerState, Port, Outcome}
 use Rattle.rules.specs.Worked.{Worked}
 use Rattle.rules.specs.Events.{Done, changed, nothing}
-use Rattle.rules.specs.Measuring.{measureSync, measureDelay, measurePeer, settle}
+use Rattle.rules.specs.Measuring.{measureSync, measureDelay, measurePeer, settle, measured, syncOut, delayOut, peerOut}
 use Rattle.rules.specs.SettleLaws.{slaveFull, settle-sync, settle-delay, settle-peer}
 use Rattle.rules.specs.AllLaws.{Comes, peerDone, all-complete, all-peerComplete}
-use Rattle.rules.specs.RuleLaws.{measured, syncOut, delayOut, peerOut, all-measureSync, all-measureDelay, all-measurePeer}
+use Rattle.rules.specs.RuleLaws.{all-measureSync, all-measureDelay, all-measurePeer}
 
 -- ---- a fit exchange is not complete
 
