@@ -9,7 +9,7 @@ use Rattle.record.specs.Record.{asSlave, isSlave}
 use Rattle.record.specs.Fit.{full}
 use Rattle.rules.specs.Worked.{Worked, worked, refused, _then_, aTime, aDuration, aMessage, aTimer, lessCorrection, plusCorrection, elapsed, lessDuration}
 use Rattle.rules.specs.Events.{Done, changed}
-use Rattle.rules.specs.Measuring.{both, known, complete, peerComplete, settle}
+use Rattle.rules.specs.Measuring.{complete, peerComplete, settle}
 use Rattle.rules.specs.Exchanges.{Change, stays, becomes}
 use Rattle.rules.specs.Rules.{keeping}
 
@@ -31,9 +31,6 @@ All P w = Comes P Silent w
 -- what all of them have, one of them has
 pub all-is : {A : Type 0} (P : A → Type 0) (R : Outcome → Type 0) (w : Worked A) (a : A) → w ≡ worked a → Comes P R w → P a
 all-is {A = A} P R w a e h = subst (λ (x : Worked A). Comes P R x) e h
-
-pub all-refused : {A : Type 0} (P : A → Type 0) (R : Outcome → Type 0) (w : Worked A) (o : Outcome) → w ≡ refused o → Comes P R w → R o
-all-refused {A = A} P R w o e h = subst (λ (x : Worked A). Comes P R x) e h
 
 -- what every refusal has may be said of them too
 pub all-fill : {A : Type 0} (P : A → Type 0) (R : Outcome → Type 0) (w : Worked A) → ((o : Outcome) → R o) → All P w → Comes P R w
@@ -68,15 +65,6 @@ module _ {A : Type 0} (P : A → Type 0) (R : Outcome → Type 0) where
   all-asSlave (PortState.Slave s) other f g h = h s refl
 
   -- ---- a complete exchange, with its times
-  pub all-both : (t u : MaybeTime) (missing : Worked A) (k : Time → Time → Worked A) → Comes P R missing → ((a b : Time) → t ≡ MaybeTime.Some a → u ≡ MaybeTime.Some b → Comes P R (k a b)) → Comes P R (both t u missing k)
-  all-both MaybeTime.None u missing k g h = g
-  all-both (MaybeTime.Some a) MaybeTime.None missing k g h = g
-  all-both (MaybeTime.Some a) (MaybeTime.Some b) missing k g h = h a b refl refl
-
-  pub all-known : (r : MaybeIdentity) (missing : Worked A) (k : Identity → Worked A) → Comes P R missing → ((i : Identity) → r ≡ MaybeIdentity.Some i → Comes P R (k i)) → Comes P R (known r missing k)
-  all-known MaybeIdentity.None missing k g h = g
-  all-known (MaybeIdentity.Some i) missing k g h = h i refl
-
   pub all-complete : (x : Exchange) (missing : Worked A) (k : Time → Time → Worked A) → (full x ≡ false → Comes P R missing) → ((id : ℕ) (a b : Time) → x ≡ Exchange.Measuring id (MaybeTime.Some a) (MaybeTime.Some b) → Comes P R (k a b)) → Comes P R (complete x missing k)
   all-complete Exchange.Empty missing k g h = g refl
   all-complete (Exchange.Measuring id MaybeTime.None MaybeTime.None) missing k g h = g refl

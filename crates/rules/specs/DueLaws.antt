@@ -91,7 +91,7 @@ module _ (c : Config) where
   tells b correction id x k =
       record {
         kind = refl;
-        length = refl;
+        stated = refl;
         body = refl;
         id = refl;
         requester = refl;
@@ -216,7 +216,7 @@ module _ (c : Config) (d : Due) (m n : Message) (x : Fulfils c d m) (y : Fulfils
       let kind : m .header .kind ≡ n .header .kind = x .kind ∙ sym (y .kind) in
       let minor : m .header .minor ≡ n .header .minor = x .minor ∙ sym (y .minor) in
       let version : m .header .version ≡ n .header .version = x .version ∙ sym (y .version) in
-      let length : m .header .length ≡ n .header .length = x .length ∙ sym (y .length) in
+      let stated : m .header .length ≡ n .header .length = x .stated ∙ sym (y .stated) in
       let domain : m .header .domain ≡ n .header .domain = x .domain ∙ sym (y .domain) in
       let flags : m .header .flags ≡ n .header .flags = x .flags ∙ sym (y .flags) in
       let correction : m .header .correction ≡ n .header .correction = signed-once _ _ (x .correction-fits) (y .correction-fits) (x .correction ∙ sym (y .correction)) in
@@ -229,7 +229,7 @@ module _ (c : Config) (d : Due) (m n : Message) (x : Fulfils c d m) (y : Fulfils
         kind = kind i;
         minor = minor i;
         version = version i;
-        length = length i;
+        length = stated i;
         domain = domain i;
         «minor_sdo» = sdo-once .1 i;
         flags = flags i;

@@ -10,7 +10,6 @@ use Rattle.rules.specs.Names.{Time, Header, Body, Reading, MaybeDuration
 use Rattle.rules.specs.Worked.{Worked, worked, refused}
 use Rattle.rules.specs.Events.{Event, event, general, stamp, syncTimer, delayTimer, filterAnswer, setState, Done, Result, answered, changed}
 use Rattle.rules.specs.Rules.{stamped, delayTimerEnds, onEvent, onGeneral, filtered, meanGiven, stateSet, stateOf}
-use Rattle.rules.specs.Rules as Rules
 use Rattle.rules.specs.WorkedOut.{ofReading, sumsOf}
 use Rattle.rules.specs.Changes.{secondHeard, recovers, newNumber, stateAfter, idsAfter, meanAfter}
 use Rattle.rules.specs.Held.{laterHeld, eventHeld, stampHeld, requestHeld, stateGiven, exchangesAfter, stateHeld, peerAfter, Concern, nobody, ofSlave, ofPeer, messageConcern, stampConcern, requestConcern, concerned}

@@ -128,9 +128,6 @@ module _ (p : Port) (room : ℕ) (e : Event) where
   unfolding step
   taken-is t = by-rows (row1 (p .config) e room) (unfit p) (row3 e) refl refl refl t
 
-  pub taken-when : IsTaken p room e → step p room e .outcome ≡ Outcome.Taken
-  taken-when k = ap (λ (r : Result). r .outcome) (k .result)
-
   -- what the rule's every ending has behind rows 2 and 3, a taken event's answer has
   pub taken-has : (Q : Result → Type 0) → (unfit p ≡ false → row3 e ≡ false → All (λ d. Q (answered p (worked d))) (ruleOf p e)) → step p room e .outcome ≡ Outcome.Taken → Q (step p room e)
   taken-has Q f t =

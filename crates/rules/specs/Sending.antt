@@ -122,7 +122,7 @@ requesterIn (Q.Requester i) = some i
 
 pub record Fulfils (c : Config) (d : Due) (m : Message) : Type 0 where
   pub kind : m .header .kind ≡ row (d .message) .number
-  pub length : m .header .length ≡ row (d .message) .length
+  pub stated : m .header .length ≡ row (d .message) .length
   pub body : typeOf (m .body) ≡ d .message
   pub id : m .header .id ≡ d .id
   pub requester : requesterIn (restIn (m .body)) ≡ d .requester
