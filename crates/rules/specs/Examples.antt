@@ -108,7 +108,7 @@ pub response-first : lines (runOf (slave 0) (delayTimer 0 ∷ general (delayResp
 unfolding runOf
 response-first = refl
 
--- a DelayResp of another source, or for another requester, does nothing: the one that counts still completes
+-- a DelayResp that a stranger sends, or that is a stranger's, does nothing: the one that counts still completes
 pub not-ours : lines (runOf (slave 0) (requestStamped (general (delayRespFrom stranger us 1000) ∷ general (delayRespFrom master stranger 1100) ∷ general (delayRespFrom master us 1960) ∷ []))) ≡ quiet ∷ quiet ∷ quiet ∷ quiet ∷ measures (Measurement.Delay (ns 2000) (lasting 40) MaybeDuration.None) ∷ []
 unfolding runOf
 not-ours = refl

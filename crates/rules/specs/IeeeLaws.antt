@@ -1,4 +1,4 @@
--- IEEE 1588-2019, 11.2, over runs: where the sync exchange is empty, a two-step Sync and its FollowUp in either order, or a one-step Sync, measure <offsetFromMaster> of the fields on the wire.
+-- IEEE 1588-2019, 11.2, over runs from an empty sync exchange: Sync and FollowUp, whichever comes first, or a one-step Sync alone, measure <offsetFromMaster> of the fields on the wire.
 use Prim.Native.Nat.{ℕ}
 use mathlib.Core.Path.{_≡_, refl, sym, ap, _∙_, subst}
 use mathlib.Core.Bool.{true, false, cond}
