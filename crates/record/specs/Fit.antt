@@ -87,6 +87,13 @@ peerFull (PeerState.Measuring id responder requestSend requestReceive responseSe
     there requestSend && there requestReceive && there responseSend && there responseReceive
 peerFull (PeerState.Measured id responder) = false
 
+-- the same of a Slave: of its sync, and of either exchange
+abbrev pub syncTimeless : PortState → Bool
+syncTimeless state = asSlave state false (λ s. timeless (s .sync))
+
+abbrev pub slaveFull : PortState → Bool
+slaveFull state = asSlave state false (λ s. full (s .sync) || full (s .delay))
+
 -- ---- row 2
 
 unfoldable pub configOut : Config → Bool
@@ -96,7 +103,7 @@ unfoldable pub unfit : Port → Bool
 unfit p =
     anyOut (slaveTimes (p .state) ++ peerTimes (p .peer))
     || configOut (p .config)
-    || asSlave (p .state) false (λ s. timeless (s .sync))
+    || syncTimeless (p .state)
     || unanswered (p .peer)
-    || asSlave (p .state) false (λ s. full (s .sync) || full (s .delay))
+    || slaveFull (p .state)
     || peerFull (p .peer)

@@ -16,8 +16,8 @@ use Rattle.record.specs.declared.PortState.{PortState}
 use Rattle.record.specs.declared.PeerState.{PeerState}
 use Rattle.record.specs.declared.Config.{Config}
 use Rattle.record.specs.declared.Port.{Port}
-use Rattle.record.specs.Record.{asSlave, portOf}
-use Rattle.record.specs.Fit.{heldTime, timesIn, slaveTimes, peerTimes, timeOut, anyOut, intervalOut, sdoOut, minorOut, timeless, unanswered, full, peerFull, configOut, unfit}
+use Rattle.record.specs.Record.{portOf}
+use Rattle.record.specs.Fit.{heldTime, timesIn, slaveTimes, peerTimes, timeOut, anyOut, intervalOut, sdoOut, minorOut, timeless, unanswered, full, peerFull, syncTimeless, slaveFull, configOut, unfit}
 use Rattle.record.specs.JoinedLaws.{all-false, none-true}
 
 -- ---- a fit record, part by part
@@ -114,13 +114,7 @@ delay-when (Exchange.Measuring id (MaybeTime.Some s) MaybeTime.None) h = (held-w
 delay-when (Exchange.Measuring id (MaybeTime.Some s) (MaybeTime.Some r)) h = absurd h
 
 -- what row 2 asks of the state: no time out of limits, no open sync without a time, no exchange with both
-abbrev syncTimeless : PortState → Bool
-syncTimeless st = asSlave st false (λ s. timeless (s .sync))
-
-abbrev eitherFull : PortState → Bool
-eitherFull st = asSlave st false (λ s. full (s .sync) || full (s .delay))
-
-state-is : (st : PortState) → anyOut (slaveTimes st) ≡ false → syncTimeless st ≡ false → eitherFull st ≡ false → FitState st
+state-is : (st : PortState) → anyOut (slaveTimes st) ≡ false → syncTimeless st ≡ false → slaveFull st ≡ false → FitState st
 state-is PortState.Listening a b c = tt
 state-is PortState.Master a b c = tt
 state-is PortState.Passive a b c = tt
@@ -130,7 +124,7 @@ state-is (PortState.Slave s) a b c =
     let (f, g) = neither (full (s .sync)) (full (s .delay)) c in
     (sync-is (s .sync) x b f, delay-is (s .delay) y g)
 
-state-when : (st : PortState) → FitState st → (anyOut (slaveTimes st) ≡ false) × (syncTimeless st ≡ false) × (eitherFull st ≡ false)
+state-when : (st : PortState) → FitState st → (anyOut (slaveTimes st) ≡ false) × (syncTimeless st ≡ false) × (slaveFull st ≡ false)
 state-when PortState.Listening h = (refl, refl, refl)
 state-when PortState.Master h = (refl, refl, refl)
 state-when PortState.Passive h = (refl, refl, refl)
@@ -197,9 +191,9 @@ config-when c f =
 -- row 2, with the times of a Slave's exchanges and of the peer exchange apart
 abbrev rowClauses : Port → List Bool
 rowClauses p =
-    anyOut (peerTimes (p .peer)) ∷ configOut (p .config) ∷ syncTimeless (p .state) ∷ unanswered (p .peer) ∷ eitherFull (p .state) ∷ peerFull (p .peer) ∷ []
+    anyOut (peerTimes (p .peer)) ∷ configOut (p .config) ∷ syncTimeless (p .state) ∷ unanswered (p .peer) ∷ slaveFull (p .state) ∷ peerFull (p .peer) ∷ []
 
-pub unfit-parts : (p : Port) → unfit p ≡ (anyOut (slaveTimes (p .state)) || anyOut (peerTimes (p .peer)) || configOut (p .config) || asSlave (p .state) false (λ s. timeless (s .sync)) || unanswered (p .peer) || asSlave (p .state) false (λ s. full (s .sync) || full (s .delay)) || peerFull (p .peer))
+pub unfit-parts : (p : Port) → unfit p ≡ (anyOut (slaveTimes (p .state)) || anyOut (peerTimes (p .peer)) || configOut (p .config) || syncTimeless (p .state) || unanswered (p .peer) || slaveFull (p .state) || peerFull (p .peer))
 unfolding unfit
 unfit-parts p = simp (out-joined (slaveTimes (p .state)) (peerTimes (p .peer)))
 

@@ -1,8 +1,7 @@
 // Rows 2 and 3 of document 01's table: which record is unfit, and which time or draw of an event is out of limits.
 ghost use mathlib.Core.Path.{_≡_};
-ghost use mathlib.Core.Bool.{false, _||_};
-ghost use Rattle.record.specs.Fit.{heldTime, timesIn, peerTimes, slaveTimes, timeOut, anyOut, intervalOut, drawOut, there, timeless, unanswered, full, peerFull, configOut, unfit};
-ghost use Rattle.record.specs.Record.{asSlave};
+ghost use mathlib.Core.Bool.{_||_};
+ghost use Rattle.record.specs.Fit.{heldTime, timesIn, peerTimes, slaveTimes, timeOut, anyOut, intervalOut, drawOut, there, timeless, unanswered, full, peerFull, syncTimeless, slaveFull, configOut, unfit};
 use crate::Config;
 use crate::Exchange;
 use crate::MaybeIdentity;
@@ -204,7 +203,7 @@ impl PortState {
 
     // Slave, with an open sync that has no time.
     fn is_timeless(self) -> bool
-        ensures { λ r. ⌜ r ≡ asSlave self false (λ s. timeless (s .sync)) ⌝ }
+        ensures { λ r. ⌜ r ≡ syncTimeless self ⌝ }
     {
         match self {
             PortState::Listening => false,
@@ -220,7 +219,7 @@ impl PortState {
 
     // Slave, with a sync or a delay exchange that has all its times.
     fn is_full(self) -> bool
-        ensures { λ r. ⌜ r ≡ asSlave self false (λ s. full (s .sync) || full (s .delay)) ⌝ }
+        ensures { λ r. ⌜ r ≡ slaveFull self ⌝ }
     {
         match self {
             PortState::Listening => false,

@@ -48,15 +48,18 @@ followedUp id t (Exchange.Measuring held send receive) =
     (cond (there send) stays (becomes (Exchange.Measuring held (MaybeTime.Some t) receive)))
     (becomes (sentAt id t))
 
+-- what waits for a message: an exchange that is open with its id takes a time once, and elsewhere the sum is not looked at
+abbrev pub awaited : {A : Type 0} → Bool → MaybeTime → Worked Time → (Time → A) → Worked (Change A)
+awaited isOpen place sum put =
+    cond isOpen (cond (there place) (worked stays) (sum then λ t. worked (becomes (put t)))) (worked stays)
+
 -- ---- the delay exchange
 
 -- DelayResp: only for the open request, and only once; the sum is not looked at elsewhere
 unfoldable pub delayAnswered : ℕ → Worked Time → Exchange → Worked (Change Exchange)
 delayAnswered id sum Exchange.Empty = worked stays
 delayAnswered id sum (Exchange.Measuring held send receive) =
-    cond (eqb held id)
-    (cond (there receive) (worked stays) (sum then λ t. worked (becomes (Exchange.Measuring held send (MaybeTime.Some t)))))
-    (worked stays)
+    awaited (eqb held id) receive sum (λ t. Exchange.Measuring held send (MaybeTime.Some t))
 
 -- the request's stamp: only for the open request, and only once
 unfoldable pub delayStamped : ℕ → Time → Exchange → Change Exchange
@@ -100,18 +103,12 @@ withResponse h body held requestSend responseSend t =
 unfoldable pub responded : Header → Time → Worked Time → PeerState → Worked (Change PeerState)
 responded h body sum PeerState.Empty = worked stays
 responded h body sum (PeerState.Measuring held responder requestSend requestReceive responseSend responseReceive) =
-    cond (eqb held (h .id))
-    (cond (there responseReceive) (worked stays) (sum then λ t.
-    worked (becomes (withResponse h body held requestSend responseSend t))))
-    (worked stays)
+    awaited (eqb held (h .id)) responseReceive sum (withResponse h body held requestSend responseSend)
 responded h body sum (PeerState.Measured held responder) = worked stays
 
 -- its follow-up, once, while the request is measuring
 unfoldable pub respondedLater : Header → Worked Time → PeerState → Worked (Change PeerState)
 respondedLater h sum PeerState.Empty = worked stays
 respondedLater h sum (PeerState.Measuring held responder requestSend requestReceive responseSend responseReceive) =
-    cond (eqb held (h .id))
-    (cond (there responseSend) (worked stays) (sum then λ t.
-    worked (becomes (PeerState.Measuring held (MaybeIdentity.Some (h .source)) requestSend requestReceive (MaybeTime.Some t) responseReceive))))
-    (worked stays)
+    awaited (eqb held (h .id)) responseSend sum (λ t. PeerState.Measuring held (MaybeIdentity.Some (h .source)) requestSend requestReceive (MaybeTime.Some t) responseReceive)
 respondedLater h sum (PeerState.Measured held responder) = worked stays

@@ -10,7 +10,7 @@ use Rattle.time.specs.Timers.{delayTimerOf}
 use Rattle.wire.specs.BytesLaws.{neither}
 use Rattle.wire.specs.Layout.{twoStep}
 use Rattle.record.specs.Record.{withDelay, withState, withSlave, withPeer}
-use Rattle.record.specs.Fit.{full, peerFull}
+use Rattle.record.specs.Fit.{slaveFull, full, peerFull}
 use Rattle.record.specs.Same.{sameIdentity}
 use Rattle.rules.specs.Names.{Time, Header, Identity, MaybeTime, MaybeIdentity, Exchange, SlaveState, PortState, PeerState, Mechanism, Port, Context}
 use Rattle.rules.specs.Worked.{Worked, worked, _then_, aTime, lessCorrection, plusCorrection}
@@ -21,7 +21,7 @@ use Rattle.rules.specs.Rules.{keeping, delayResp, becomesFaulty, peerAns
 use Rattle.rules.specs.WorkedOut.{opened, differs, answeredBy, second}
 use Rattle.rules.specs.Held.{sendFilled, receiveFilled, takenOut, delayRespHeld, delayStampHeld, newDelay, requestHeld, peerTakenOut, peerStampHeld, pDelayRespHeld, pDelayRespFollowUpHeld}
 use Rattle.rules.specs.AgreeLaws.{by-test, then-then}
-use Rattle.rules.specs.SettleLaws.{slaveFull, settle-delay, settle-peer}
+use Rattle.rules.specs.SettleLaws.{settle-delay, settle-peer}
 use Rattle.rules.specs.PeerLaws.{second-same}
 use Rattle.rules.specs.SumsLaws.{Open}
 use Rattle.rules.specs.AllLaws.{All, Silent, all-timed}

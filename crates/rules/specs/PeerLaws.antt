@@ -11,7 +11,7 @@ use Rattle.time.specs.Units.{time, timeOf, correction}
 use Rattle.wire.specs.Layout.{twoStep}
 use Rattle.wire.specs.BytesLaws.{apart}
 use Rattle.record.specs.Record.{withPeer}
-use Rattle.record.specs.Fit.{unanswered}
+use Rattle.record.specs.Fit.{slaveFull, unanswered}
 use Rattle.record.specs.Same.{sameIdentity}
 use Rattle.rules.specs.Worked.{Worked, worked, _then_, lessCorrection, plusCorrection, aTime}
 use Rattle.rules.specs.Events.{Done, nothing}
@@ -21,7 +21,7 @@ use Rattle.rules.specs.Rules.{keeping, becomesFaulty, peerAnswer, pDelay
 use Rattle.rules.specs.WorkedOut.{Completed, peer, peerOpened, held, Sums, corrected, noSums, numbersOf, differs, answeredBy, second, pDelayRespSums, pDelayRespFollowUpSums, stampSums}
 use Rattle.rules.specs.AgreeLaws.{by-test, agrees-time, then-then}
 use Rattle.rules.specs.MeasureLaws.{Judged, SumsJudged, peer-judged}
-use Rattle.rules.specs.SettleLaws.{slaveFull, settle-peer}
+use Rattle.rules.specs.SettleLaws.{settle-peer}
 
 -- another responder to the request that is open or measured, said in two ways
 pub second-same : (h : Header) (q : PeerState) → secondResponder h q ≡ differs (answeredBy (h .id) q) (h .source)

@@ -12,7 +12,7 @@ use Rattle.record.specs.Record.{withSync, withDelay, withSlave, withPeer}
 use Rattle.rules.specs.Measuring.{settle}
 use Rattle.rules.specs.Rules.{filtered, stateSet}
 use Rattle.rules.specs.Table.{row1, row3}
-use Rattle.rules.specs.Step.{unless, ruleOf, step}
+use Rattle.rules.specs.Step.{tabled, unless, ruleOf, step}
 use Rattle.rules.specs.AllLaws.{Comes, Anything, Silent, All, all-is, all-cond, all-fill}
 use Rattle.rules.specs.RuleLaws.{all-settle}
 use Rattle.rules.specs.EveryLaws.{Rows, Every, every-rule}
@@ -64,11 +64,6 @@ pub rule-refuses : (p : Port) (e : Event) → Comes Anything NotTaken (ruleOf p 
 rule-refuses p e = every-rule Anything NotTaken p (each p) e
 
 -- ---- a refusal changes nothing
-
--- the table, and behind it the rule
-abbrev pub tabled : Port → ℕ → Event → Worked Done
-tabled p room e =
-    unless (row1 (p .config) e room) Outcome.Buffer (unless (unfit p) Outcome.Unfit (unless (row3 e) Outcome.Limits (ruleOf p e)))
 
 as-refused : (p : Port) (w : Worked Done) → (answered p w .outcome ≡ Outcome.Taken → ⊥) → answered p w ≡ refusal (answered p w .outcome) p
 as-refused p (worked d) n = absurd (n refl)

@@ -1,10 +1,10 @@
 -- What is settled after an exchange was stored: that exchange alone, since a fit record has no other that is complete.
 use Prim.Native.Nat.{ℕ}
 use mathlib.Core.Path.{_≡_, refl, _∙_, ap}
-use mathlib.Core.Bool.{Bool, false, _||_, _&&_}
+use mathlib.Core.Bool.{false, _&&_}
 use Rattle.rules.specs.Names.{Time, Identity, MaybeTime, Exchange, SlaveState, PortState, PeerState, Port}
 use Rattle.record.specs.Record.{asSlave, withSlave, withSync, withDelay, withPeer}
-use Rattle.record.specs.Fit.{full, peerFull, there}
+use Rattle.record.specs.Fit.{full, slaveFull, peerFull, there}
 use Rattle.wire.specs.BytesLaws.{neither, apart}
 use Rattle.rules.specs.Worked.{Worked}
 use Rattle.rules.specs.Events.{Done, nothing}
@@ -46,10 +46,6 @@ module _ (p : Port) (s : SlaveState) (x : Exchange) (q : peerFull (p .peer) ≡ 
       let r : Port = withSlave p (withDelay s x) in
       peer-not-complete (p .peer) _ (measurePeer r) q
       ∙ not-complete (s .sync) _ (measureSync r (withDelay s x)) e
-
--- one of a Slave's exchanges is complete
-abbrev pub slaveFull : PortState → Bool
-slaveFull state = asSlave state false (λ s. full (s .sync) || full (s .delay))
 
 slave-not-complete : {A : Type 0} (state : PortState) (missing : A) (k j : SlaveState → Time → Time → A) → slaveFull state ≡ false → asSlave state missing (λ s. complete (s .sync) (complete (s .delay) missing (j s)) (k s)) ≡ missing
 slave-not-complete PortState.Listening missing k j e = refl

@@ -28,10 +28,10 @@ ruleOf p (delayTimer draw) = delayTimerEnds p draw
 ruleOf p (filterAnswer update) = filtered p update
 ruleOf p (setState new) = stateSet p new
 
+-- the table, and behind it the rule
+abbrev pub tabled : Port → ℕ → Event → Worked Done
+tabled p room e =
+    unless (row1 (p .config) e room) Outcome.Buffer (unless (unfit p) Outcome.Unfit (unless (row3 e) Outcome.Limits (ruleOf p e)))
+
 unfoldable pub step : Port → ℕ → Event → Result
-step p room e =
-    answered p
-    (unless (row1 (p .config) e room) Outcome.Buffer
-    (unless (unfit p) Outcome.Unfit
-    (unless (row3 e) Outcome.Limits
-    (ruleOf p e))))
+step p room e = answered p (tabled p room e)

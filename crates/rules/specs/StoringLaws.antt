@@ -4,13 +4,13 @@ use mathlib.Core.Bool.{Bool, true, false, _||_}
 use Prim.Native.Nat.{ℕ}
 use Rattle.time.specs.Units.{halfOf}
 use Rattle.record.specs.Record.{isFaulty, withSync, withDelay, withSlave, withPeer}
-use Rattle.record.specs.Fit.{full, peerFull}
+use Rattle.record.specs.Fit.{slaveFull, full, peerFull}
 use Rattle.record.specs.FitLaws.{FitSync, FitDelay, FitState}
 use Rattle.rules.specs.Names.{Duration, Identity, MaybeTime, Measurement, Exchange, SlaveState, PortState, PeerState, Port, Outcome}
 use Rattle.rules.specs.Worked.{Worked}
 use Rattle.rules.specs.Events.{Done, changed, nothing}
 use Rattle.rules.specs.Measuring.{measureSync, measureDelay, measurePeer, settle, measured, syncOut, delayOut, peerOut}
-use Rattle.rules.specs.SettleLaws.{slaveFull, settle-sync, settle-delay, settle-peer}
+use Rattle.rules.specs.SettleLaws.{settle-sync, settle-delay, settle-peer}
 use Rattle.rules.specs.AllLaws.{Comes, peerDone, all-complete, all-peerComplete}
 use Rattle.rules.specs.RuleLaws.{all-measureSync, all-measureDelay, all-measurePeer}
 

@@ -7,23 +7,19 @@ use lib.IntN.{ℤ, _+ℤ_, _-ℤ_}
 use Rattle.rules.specs.Names.{Time, Identity, Header, Body, PortState, Context, Port}
 use Rattle.time.specs.Units.{time, correction}
 use Rattle.wire.specs.BytesLaws.{neither}
-use Rattle.record.specs.Record.{asSlave, withState}
-use Rattle.record.specs.Fit.{unfit, timeless, full, unanswered, peerFull, anyOut, slaveTimes, peerTimes, configOut}
+use Rattle.record.specs.Record.{withState}
+use Rattle.record.specs.Fit.{syncTimeless, slaveFull, unfit, full, unanswered, peerFull, anyOut, slaveTimes, peerTimes, configOut}
 use Rattle.record.specs.Same.{sameIdentity}
 use Rattle.rules.specs.Events.{nothing}
 use Rattle.rules.specs.Rules.{sync, followUp, delayResp, stamped, onEvent, onGeneral}
 use Rattle.rules.specs.WorkedOut.{Sums, noSums, syncSums, followUpSums, delayRespSums, stampSums, eventSums, laterSums}
 use Rattle.rules.specs.MeasureLaws.{SumsJudged}
-use Rattle.rules.specs.SettleLaws.{slaveFull}
 use Rattle.rules.specs.SyncLaws.{sync-sums, follow-up-sums}
 use Rattle.rules.specs.DelayLaws.{delay-stamp-sums, delay-resp-sums}
 use Rattle.rules.specs.PeerLaws.{peer-stamp-sums, pdelay-resp-sums, pdelay-resp-follow-up-sums}
 use Rattle.rules.specs.SendLaws.{pdelay-req-sums, delay-req-sums, sync-stamp-sums, response-stamp-sums}
 
 -- what the rules need of a fit record: each open exchange lacks a time, an open sync has one, and an answered request its responder
-abbrev pub syncTimeless : PortState → Bool
-syncTimeless state = asSlave state false (λ s. timeless (s .sync))
-
 pub record Open (p : Port) : Type 0 where
   pub timed : syncTimeless (p .state) ≡ false
   pub slave : slaveFull (p .state) ≡ false
