@@ -1,4 +1,4 @@
--- To be believed: `Ids`, `Record`, `Fit`, `Same`, `Answers`. What follows from them: the laws and the examples.
+-- To be believed: `Ids`, `Record`, `Fit`, `Answers`. What follows from them: `Same`, which is equality by `SameLaws`, the laws and the examples.
 pub mod Ids
 pub mod Record
 pub mod Fit

@@ -86,7 +86,7 @@ measurePeer p id responder requestSend requestReceive responseSend responseRecei
     lessDuration turn stay then λ twice.
     worked (measured (peerOut p id responder) (Measurement.Peer responseReceive (halfOf twice)) (isFaulty (p .state)))
 
--- ---- the exchange that an event left complete, in the Rust's order; a record that was fit has no other (`FitnessLaws`)
+-- ---- the exchange that an event left complete, in the Rust's order; a record that was fit has no other (`SettleLaws`)
 unfoldable pub settle : Port → Worked Done
 settle p =
     peerComplete (p .peer)

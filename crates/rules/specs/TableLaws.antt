@@ -117,12 +117,12 @@ rule-rows p (delayTimer draw) fit limits b = delay-timer-there p fit draw limits
 rule-rows p (filterAnswer update) fit limits b = refl
 rule-rows p (setState new) fit limits b = refl
 
--- the answer is the first row whose condition holds
 -- a row in front of others, and the same in the table
 in-front : (t : Bool) (o : Outcome) (w : Worked Done) (rest : Outcome) → (t ≡ false → outcomeOf w ≡ rest) → outcomeOf (cond t (refused o) w) ≡ cond t o rest
 in-front true o w rest e = refl
 in-front false o w rest e = e refl
 
+-- the answer is the first row whose condition holds
 pub first-row : (p : Port) (room : ℕ) (e : Event) → BytesIn e → step p room e .outcome ≡ firstHit (table p room e)
 unfolding step
 first-row p room e b =
