@@ -24,7 +24,7 @@ numberOf Outcome.Foreign = 6
 numberOf Outcome.Host = 8
 numberOf Outcome.Range = 7
 
--- at most two actions, in their order; the places that are left hold the empty one
+-- two places for the actions, in their order; a place that is left holds the empty one. (No event has more than two: `at-most-two` in crate `rules`.)
 abbrev pub todo : Action → Todo
 todo a = record { action = a }
 
@@ -37,7 +37,7 @@ unfoldable pub answerOf : Outcome → Port → MaybeMeasurement → ℕ → List
 answerOf o p m n as′ r =
     record { outcome = o; port = p; measurement = m; length = n; actions = places as′; count = length as′; reset = r }
 
--- each number but 0 leaves the record as found, with nothing else
+-- a refusal: the record that was found, and nothing beside it
 abbrev pub refusedWith : Outcome → Port → Answer
 refusedWith o p = answerOf o p MaybeMeasurement.None 0 [] false
 

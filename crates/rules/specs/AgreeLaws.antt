@@ -32,10 +32,11 @@ agrees-same : (ns ms : List Number) (Says : Done → Type 0) (w : Worked Done) �
 agrees-same ns ms Says (worked d) e a = (sym e ∙ a .0, a .1)
 agrees-same ns ms Says (refused o) e a = (a .0, sym e ∙ a .1)
 
-passed : (b c : Bool) → b ≡ true → c ≡ (not b || c)
+-- a test of one number, in front of those of others
+pub passed : (b c : Bool) → b ≡ true → c ≡ (not b || c)
 passed b c e = simp e
 
-failed : (b c : Bool) → b ≡ false → (not b || c) ≡ true
+pub failed : (b c : Bool) → b ≡ false → (not b || c) ≡ true
 failed b c e = simp e
 
 -- ---- a duration

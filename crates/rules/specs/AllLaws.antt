@@ -1,16 +1,16 @@
 -- Laws of what a rule comes to, each once for any property of what is worked out and any property of a refusal. A theorem on a rule follows the rule's own shape: one law for each step of it.
 use mathlib.Core.Path.{_≡_, refl, subst}
-use mathlib.Core.Bool.{Bool, true, false, cond}
+use mathlib.Core.Bool.{Bool, true, false, cond, _&&_, not}
 use Prim.Native.Nat.{ℕ}
 use lib.IntN.{_+ℤ_, _-ℤ_}
 use Rattle.time.specs.Units.{time, timeOf, duration, durationOf, correction}
 use Rattle.rules.specs.Names.{TimeAnswer, DurationAnswer, TimerAnswer, MessageAnswer, Message, Time, Duration, Header, Identity, MaybeTime, MaybeIdentity, Exchange, SlaveState, PortState, PeerState, Port, Outcome}
 use Rattle.record.specs.Record.{asSlave, isSlave}
-use Rattle.record.specs.Fit.{full}
+use Rattle.record.specs.Fit.{there, full}
 use Rattle.rules.specs.Worked.{Worked, worked, refused, _then_, aTime, aDuration, aMessage, aTimer, lessCorrection, plusCorrection, elapsed, lessDuration}
 use Rattle.rules.specs.Events.{Done, changed}
 use Rattle.rules.specs.Measuring.{complete, peerComplete, settle}
-use Rattle.rules.specs.Exchanges.{Change, stays, becomes}
+use Rattle.rules.specs.Exchanges.{Change, stays, becomes, awaited}
 use Rattle.rules.specs.Rules.{keeping}
 
 -- what is worked out has P, and what refuses has R
@@ -81,6 +81,13 @@ module _ {A : Type 0} (P : A → Type 0) (R : Outcome → Type 0) where
   all-peerComplete (PeerState.Measuring id MaybeIdentity.None (MaybeTime.Some a) (MaybeTime.Some b) (MaybeTime.Some c) (MaybeTime.Some d)) missing k g h = g refl
   all-peerComplete (PeerState.Measuring id (MaybeIdentity.Some i) (MaybeTime.Some a) (MaybeTime.Some b) (MaybeTime.Some c) (MaybeTime.Some d)) missing k g h = h id i a b c d refl
   all-peerComplete (PeerState.Measured id r) missing k g h = g refl
+
+-- a message that is waited for: where its exchange is not open, or has this time, nothing changes; else the sum is stored
+pub all-awaited : {X : Type 0} (P : Change X → Type 0) (R : Outcome → Type 0) (isOpen : Bool) (place : MaybeTime) (sum : Worked Time) (put : Time → X) → Comes Anything R sum → (isOpen && not (there place) ≡ false → P stays) → ((t : Time) → isOpen && not (there place) ≡ true → sum ≡ worked t → P (becomes (put t))) → Comes P R (awaited isOpen place sum put)
+all-awaited P R false place sum put s f g = f refl
+all-awaited P R true (MaybeTime.Some u) sum put s f g = f refl
+all-awaited P R true MaybeTime.None (worked t) put s f g = g t refl refl
+all-awaited P R true MaybeTime.None (refused o) put s f g = s
 
 -- ---- an exchange that stays, or is stored
 pub all-kept : (P : Done → Type 0) (R : Outcome → Type 0) {X : Type 0} (p : Port) (store : X → Port) (c : Change X) → (c ≡ stays → P (changed p false)) → ((x : X) → c ≡ becomes x → Comes P R (settle (store x))) → Comes P R (keeping p store c)

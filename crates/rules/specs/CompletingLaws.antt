@@ -1,5 +1,5 @@
 -- The peer exchange as the rules change it, beside `WorkedOut`: a rule completes it exactly where the sums complete it, and nothing else does.
-use mathlib.Core.Path.{_≡_, refl}
+use mathlib.Core.Path.{_≡_, refl, sym, ap, _∙_}
 use mathlib.Core.Bool.{Bool, true, false, true≢false, cond, _&&_, not}
 use Prim.Native.Nat.{ℕ}
 use lib.Dec.{eqb}
@@ -9,11 +9,11 @@ use Rattle.time.specs.Units.{time}
 use Rattle.record.specs.Same.{sameIdentity}
 use Rattle.record.specs.Fit.{there, unanswered}
 use Rattle.rules.specs.Names.{Time, Header, Identity, MaybeTime, MaybeIdentity, PeerState, Port}
-use Rattle.rules.specs.Worked.{Worked, worked, refused, _then_}
-use Rattle.rules.specs.Exchanges.{Change, stays, becomes, responded, respondedLater, peerStamped}
+use Rattle.rules.specs.Worked.{Worked}
+use Rattle.rules.specs.Exchanges.{Change, stays, becomes, awaited, withResponse, responded, respondedLater, peerStamped}
 use Rattle.rules.specs.WorkedOut.{Completed, unfinished, peer, Sums, noSums, held, hears, opened, syncIn, delayIn, sendIn, receiveIn, peerOpened, requestSendIn, requestReceiveIn, responseSendIn, responseReceiveIn, syncSums, followUpSums, delayRespSums, delayStampSums}
 use Rattle.rules.specs.Changes.{isPeer}
-use Rattle.rules.specs.AllLaws.{All, peerDone}
+use Rattle.rules.specs.AllLaws.{All, Silent, all-silent, all-awaited, peerDone}
 
 -- ---- what a change completes
 
@@ -21,11 +21,11 @@ abbrev pub becoming : Change PeerState → Bool
 becoming stays = false
 becoming (becomes x) = peerDone x
 
-stored : (ours taken whole : Bool) (sum : Worked Time) (new : Time → PeerState) → ((t : Time) → peerDone (new t) ≡ whole) → All (λ c. becoming c ≡ (ours && not taken && whole)) (cond ours (cond taken (worked stays) (sum then λ t. worked (becomes (new t)))) (worked stays))
-stored true true whole sum new f = refl
-stored true false whole (worked t) new f = f t
-stored true false whole (refused o) new f = tt
-stored false taken whole sum new f = refl
+stored : (isOpen : Bool) (place : MaybeTime) (whole : Bool) (sum : Worked Time) (put : Time → PeerState) → ((t : Time) → peerDone (put t) ≡ whole) → All (λ c. becoming c ≡ (isOpen && not (there place) && whole)) (awaited isOpen place sum put)
+stored isOpen place whole sum put f =
+    all-awaited (λ c. becoming c ≡ (isOpen && not (there place) && whole)) Silent isOpen place sum put (all-silent sum)
+    (λ e. ap (λ (b : Bool). b && whole) (sym e))
+    (λ t e g. f t ∙ ap (λ (b : Bool). b && whole) (sym e))
 
 -- the response
 abbrev pub responseCompletes : Header → PeerState → ℤ → ℤ → Completed
@@ -43,8 +43,8 @@ pub response-completes : (h : Header) (body : Time) (sum : Worked Time) (q : Pee
 unfolding responded
 response-completes h body sum PeerState.Empty y z = refl
 response-completes h body sum (PeerState.Measuring id r a b c d) y z =
-    stored (eqb id (h .id)) (there d) (isPeer (responseCompletes h (PeerState.Measuring id r a b c d) y z)) sum
-    (λ t. PeerState.Measuring id (MaybeIdentity.Some (h .source)) a (MaybeTime.Some body) (cond (twoStep h) c (MaybeTime.Some body)) (MaybeTime.Some t))
+    stored (eqb id (h .id)) d (isPeer (responseCompletes h (PeerState.Measuring id r a b c d) y z)) sum
+    (withResponse h body id a c)
     (λ t. response-whole (twoStep h) id (h .source) a c body t y z)
 response-completes h body sum (PeerState.Measured id r) y z = refl
 
@@ -63,7 +63,7 @@ pub follow-up-completes : (h : Header) (sum : Worked Time) (q : PeerState) (z : 
 unfolding respondedLater
 follow-up-completes h sum PeerState.Empty z = refl
 follow-up-completes h sum (PeerState.Measuring id r a b c d) z =
-    stored (eqb id (h .id)) (there c) (isPeer (followUpCompletes (PeerState.Measuring id r a b c d) z)) sum
+    stored (eqb id (h .id)) c (isPeer (followUpCompletes (PeerState.Measuring id r a b c d) z)) sum
     (λ t. PeerState.Measuring id (MaybeIdentity.Some (h .source)) a b (MaybeTime.Some t) d)
     (λ t. follow-up-whole id (h .source) a b d t z)
 follow-up-completes h sum (PeerState.Measured id r) z = refl

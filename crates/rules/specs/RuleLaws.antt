@@ -1,6 +1,6 @@
 -- What each rule can come to: a property that holds of every ending of a rule holds of what the rule gives. Each law hands on the equations that its rule's tests leave.
 use mathlib.Core.Path.{_≡_, refl, ap, _∙_}
-use mathlib.Core.Bool.{Bool, true, false, cond}
+use mathlib.Core.Bool.{Bool, true, false}
 use lib.Dec.{eqb}
 use mathlib.Core.List.{[]}
 use Prim.Native.Nat.{ℕ}
@@ -9,14 +9,13 @@ use Rattle.time.specs.Units.{halfOf}
 use Rattle.time.specs.Timers.{syncTimerOf, delayTimerOf}
 use Rattle.sent.specs.Messages.{followUpOf, delayRespOf, pDelayRespOf, pDelayRespFollowUpOf}
 use Rattle.record.specs.Record.{isMaster, isFaulty, isSlave, withSync, withDelay, withSlave, withPeer}
-use Rattle.record.specs.Fit.{there}
 use Rattle.record.specs.Same.{sameIdentity}
 use Rattle.rules.specs.Worked.{Worked, worked, _then_, lessCorrection, plusCorrection, elapsed, lessDuration}
 use Rattle.rules.specs.Events.{Done, nothing, changed, sending}
 use Rattle.rules.specs.Measuring.{measured, syncOut, delayOut, peerOut, lessMean, halfBelow, measureSync, measureDelay, measurePeer, settle}
-use Rattle.rules.specs.Exchanges.{Change, stays, becomes, synced, followedUp, delayAnswered, delayStamped, peerStamped, secondResponder, withResponse, responded, respondedLater}
+use Rattle.rules.specs.Exchanges.{Change, stays, becomes, synced, followedUp, delayAnswered, delayStamped, peerStamped, secondResponder, awaited, withResponse, responded, respondedLater}
 use Rattle.rules.specs.Rules.{syncSent, delaySent, peerSent, senderOf, fromMaster, becomesFaulty, sync, followUp, delayResp, peerAnswer, pDelayResp, pDelayRespFollowUp, delayReq, pDelayReq, stamped, request, delayTimerEnds, syncTimerEnds}
-use Rattle.rules.specs.AllLaws.{Comes, Anything, all-then, all-cond, all-asSlave, all-complete, all-peerComplete, all-kept, all-sent, all-timed, all-lessCorrection, all-plusCorrection, all-between, all-less}
+use Rattle.rules.specs.AllLaws.{Comes, Anything, all-then, all-cond, all-asSlave, all-complete, all-peerComplete, all-kept, all-awaited, all-sent, all-timed, all-lessCorrection, all-plusCorrection, all-between, all-less}
 
 -- ---- the measurements
 
@@ -70,30 +69,27 @@ module _ (P : Done → Type 0) (R : Outcome → Type 0) (range : R Outcome.Range
 
 -- a sum is worked out only where its exchange is open and its place empty
 module _ (R : Outcome → Type 0) (sum : Worked Time) (s : Comes Anything R sum) where
-  all-stored : {X : Type 0} (ours taken : Bool) (new : Time → X) → Comes Anything R (cond ours (cond taken (worked stays) (sum then λ t. worked (becomes (new t)))) (worked stays))
-  all-stored true true new = tt
-  all-stored true false new = all-then Anything R sum (λ t. worked (becomes (new t))) s (λ t e. tt)
-  all-stored false taken new = tt
+  all-waited : {X : Type 0} (isOpen : Bool) (place : MaybeTime) (put : Time → X) → Comes Anything R (awaited isOpen place sum put)
+  all-waited isOpen place put = all-awaited Anything R isOpen place sum put s (λ e. tt) (λ t e g. tt)
 
   all-delayAnswered : (id : ℕ) (x : Exchange) → Comes Anything R (delayAnswered id sum x)
   unfolding delayAnswered
   all-delayAnswered id Exchange.Empty = tt
   all-delayAnswered id (Exchange.Measuring held send receive) =
-      all-stored (eqb held id) (there receive) (λ t. Exchange.Measuring held send (MaybeTime.Some t))
+      all-waited (eqb held id) receive (λ t. Exchange.Measuring held send (MaybeTime.Some t))
 
   all-responded : (h : Header) (body : Time) (q : PeerState) → Comes Anything R (responded h body sum q)
   unfolding responded
   all-responded h body PeerState.Empty = tt
   all-responded h body (PeerState.Measuring held r a b c d) =
-      all-stored (eqb held (h .id)) (there d)
-      (withResponse h body held a c)
+      all-waited (eqb held (h .id)) d (withResponse h body held a c)
   all-responded h body (PeerState.Measured held r) = tt
 
   all-respondedLater : (h : Header) (q : PeerState) → Comes Anything R (respondedLater h sum q)
   unfolding respondedLater
   all-respondedLater h PeerState.Empty = tt
   all-respondedLater h (PeerState.Measuring held r a b c d) =
-      all-stored (eqb held (h .id)) (there c) (λ t. PeerState.Measuring held (MaybeIdentity.Some (h .source)) a b (MaybeTime.Some t) d)
+      all-waited (eqb held (h .id)) c (λ t. PeerState.Measuring held (MaybeIdentity.Some (h .source)) a b (MaybeTime.Some t) d)
   all-respondedLater h (PeerState.Measured held r) = tt
 
 -- ---- received messages

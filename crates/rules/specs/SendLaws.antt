@@ -1,7 +1,7 @@
 -- The messages that carry a stamp beside their sent fields: nothing is made exactly where the seconds leave 48 bits or the correction 64.
 use Prim.Native.Nat.{ℕ, _-_, _/_, _^_, _<_, _≤_}
 use mathlib.Core.Path.{_≡_, refl, sym, _∙_, ap}
-use mathlib.Core.Bool.{Bool, true, false, false≢true, cond, not, _||_}
+use mathlib.Core.Bool.{Bool, true, false, false≢true, cond}
 use mathlib.Core.Logic.{_⊎_, inl, inr}
 use mathlib.Core.List.{List, [], _∷_, append-nil}
 use native.Mathlib.Omega.{arith}
@@ -21,7 +21,7 @@ use Rattle.rules.specs.Worked.{worked, _then_, aMessage}
 use Rattle.rules.specs.Events.{sending}
 use Rattle.rules.specs.Rules.{delayReq, pDelayReq, stamped}
 use Rattle.rules.specs.WorkedOut.{Number, seconds, inRange, outside, secondsOf, lessF, sentFields, noSums, stampSums}
-use Rattle.rules.specs.AgreeLaws.{by-test}
+use Rattle.rules.specs.AgreeLaws.{by-test, passed, failed}
 use Rattle.rules.specs.MeasureLaws.{SumsJudged}
 
 -- ---- the fields
@@ -35,21 +35,14 @@ short n h = omega arith
 long : (n : ℕ) → lateFrom ≤ n → 2 ^ 48 ≤ n / 2 ^ 32 / 10 ^ 9
 long n h = omega arith
 
--- a test of one number, in a list
-first-in : (b c : Bool) → b ≡ true → (not b || c) ≡ c
-first-in b c e = simp e
-
-first-out : (b c : Bool) → b ≡ false → (not b || c) ≡ true
-first-out b c e = simp e
-
 module _ (t : Time) (ns : List Number) where
   pub timely : unitsOf t < lateFrom → outside (secondsOf t ∷ ns) ≡ outside ns
   unfolding time
-  timely h = first-in _ (outside ns) (seconds-in (unitsOf t / 2 ^ 32 / 10 ^ 9) ∙ lt-ltb (unitsOf t / 2 ^ 32 / 10 ^ 9) (2 ^ 48) (short (unitsOf t) h))
+  timely h = sym (passed _ (outside ns) (seconds-in (unitsOf t / 2 ^ 32 / 10 ^ 9) ∙ lt-ltb (unitsOf t / 2 ^ 32 / 10 ^ 9) (2 ^ 48) (short (unitsOf t) h)))
 
   pub late : lateFrom ≤ unitsOf t → outside (secondsOf t ∷ ns) ≡ true
   unfolding time
-  late h = first-out _ (outside ns) (seconds-in (unitsOf t / 2 ^ 32 / 10 ^ 9) ∙ le-ltb (unitsOf t / 2 ^ 32 / 10 ^ 9) (2 ^ 48) (long (unitsOf t) h))
+  late h = failed _ (outside ns) (seconds-in (unitsOf t / 2 ^ 32 / 10 ^ 9) ∙ le-ltb (unitsOf t / 2 ^ 32 / 10 ^ 9) (2 ^ 48) (long (unitsOf t) h))
 
 -- ---- what is carried: nothing exactly where a field is out of range
 
@@ -83,11 +76,11 @@ module _ (h : Header) (t : Time) where
 
   room-for : inCorrection (lessOf (h .correction) t) ≡ true → outside (lessF h t ∷ []) ≡ false
   unfolding time
-  room-for e = first-in (inCorrection (lessOf (h .correction) t)) false e
+  room-for e = sym (passed (inCorrection (lessOf (h .correction) t)) false e)
 
   no-room : inCorrection (lessOf (h .correction) t) ≡ false → outside (lessF h t ∷ []) ≡ true
   unfolding time
-  no-room e = first-out (inCorrection (lessOf (h .correction) t)) false e
+  no-room e = failed (inCorrection (lessOf (h .correction) t)) false e
 
   too-late : outside fields ≡ true → Dec (unitsOf t < lateFrom) → (b : Bool) → inCorrection (lessOf (h .correction) t) ≡ b → answerStamp (h .correction) t ≡ Carried.Out
   too-late e (no k) b i = answer-out-when (h .correction) t (inl (not-below (unitsOf t) lateFrom k))

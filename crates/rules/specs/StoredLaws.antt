@@ -10,9 +10,9 @@ use Rattle.wire.specs.Layout.{twoStep}
 use Rattle.record.specs.Fit.{there, full, unanswered, peerFull}
 use Rattle.record.specs.FitLaws.{FitTime, FitSync, FitDelay, FitPeer, peer-times-is, peer-times-when}
 use Rattle.rules.specs.Names.{TimeAnswer, Time, Header, Identity, MaybeTime, MaybeIdentity, Exchange, PeerState}
-use Rattle.rules.specs.Worked.{Worked, worked, refused, _then_, aTime, lessCorrection, plusCorrection}
-use Rattle.rules.specs.Exchanges.{Change, stays, becomes, received, twoStepSync, atOnce, oneStepSync, synced, sentAt, followedUp, delayAnswered, delayStamped, peerStamped, responded, respondedLater}
-use Rattle.rules.specs.AllLaws.{All, Silent, all-map, peerDone}
+use Rattle.rules.specs.Worked.{Worked, aTime, lessCorrection, plusCorrection}
+use Rattle.rules.specs.Exchanges.{Change, stays, becomes, awaited, received, twoStepSync, atOnce, oneStepSync, synced, sentAt, followedUp, delayAnswered, delayStamped, peerStamped, responded, respondedLater}
+use Rattle.rules.specs.AllLaws.{All, Silent, all-is, all-map, all-silent, all-awaited, peerDone}
 
 -- ---- corrected times are times
 
@@ -54,11 +54,9 @@ stores-cond P true c d k l = k
 stores-cond P false c d k l = l
 
 -- a sum is stored where the exchange is ours and its place empty
-all-stores : {A : Type 0} (P : A → Type 0) (ours taken : Bool) (sum : Worked Time) (new : Time → A) → All InTime sum → ((t : Time) → InTime t → P (new t)) → All (Stores P) (cond ours (cond taken (worked stays) (sum then λ t. worked (becomes (new t)))) (worked stays))
-all-stores P true true sum new k f = tt
-all-stores P true false (worked t) new k f = f t k
-all-stores P true false (refused o) new k f = tt
-all-stores P false taken sum new k f = tt
+all-stores : {A : Type 0} (P : A → Type 0) (isOpen : Bool) (place : MaybeTime) (sum : Worked Time) (put : Time → A) → All InTime sum → ((t : Time) → InTime t → P (put t)) → All (Stores P) (awaited isOpen place sum put)
+all-stores P isOpen place sum put k f =
+    all-awaited (Stores P) Silent isOpen place sum put (all-silent sum) (λ e. tt) (λ t e g. f t (all-is InTime Silent sum t g k))
 
 -- ---- the exchanges of a Slave
 
@@ -114,7 +112,7 @@ pub delay-answered-stores : (id : ℕ) (sum : Worked Time) (x : Exchange) → Al
 unfolding delayAnswered
 delay-answered-stores id sum Exchange.Empty k = tt
 delay-answered-stores id sum (Exchange.Measuring held send receive) k =
-    all-stores DelayOrFull (eqb held id) (there receive) sum (λ t. Exchange.Measuring held send (MaybeTime.Some t)) k (delay-receive held send)
+    all-stores DelayOrFull (eqb held id) receive sum (λ t. Exchange.Measuring held send (MaybeTime.Some t)) k (delay-receive held send)
 
 pub delay-stamped-stores : (id : ℕ) (t : Time) (x : Exchange) → InTime t → Stores DelayOrFull (delayStamped id t x)
 unfolding delayStamped
@@ -151,7 +149,7 @@ unfolding responded
 responded-stores h body sum PeerState.Empty k l f = tt
 responded-stores h body sum (PeerState.Measuring id r a b c d) k l f =
     let (x, y, z, w) = peer-times-is id r a b c d (f .in-limits) in
-    all-stores PeerOrDone (eqb id (h .id)) (there d) sum
+    all-stores PeerOrDone (eqb id (h .id)) d sum
     (λ t. PeerState.Measuring id (MaybeIdentity.Some (h .source)) a (MaybeTime.Some body) (cond (twoStep h) c (MaybeTime.Some body)) (MaybeTime.Some t)) l
     (λ t m. known-fit id (h .source) a (MaybeTime.Some body) (cond (twoStep h) c (MaybeTime.Some body)) (MaybeTime.Some t) x k (one-of-two (twoStep h) c (MaybeTime.Some body) z k) m)
 responded-stores h body sum (PeerState.Measured id r) k l f = tt
@@ -161,7 +159,7 @@ unfolding respondedLater
 responded-later-stores h sum PeerState.Empty l f = tt
 responded-later-stores h sum (PeerState.Measuring id r a b c d) l f =
     let (x, y, z, w) = peer-times-is id r a b c d (f .in-limits) in
-    all-stores PeerOrDone (eqb id (h .id)) (there c) sum (λ t. PeerState.Measuring id (MaybeIdentity.Some (h .source)) a b (MaybeTime.Some t) d) l
+    all-stores PeerOrDone (eqb id (h .id)) c sum (λ t. PeerState.Measuring id (MaybeIdentity.Some (h .source)) a b (MaybeTime.Some t) d) l
     (λ t m. known-fit id (h .source) a b (MaybeTime.Some t) d x y m w)
 responded-later-stores h sum (PeerState.Measured id r) l f = tt
 
