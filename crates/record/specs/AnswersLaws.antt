@@ -40,7 +40,12 @@ module _ (o : Outcome) (p : Port) (m : MaybeMeasurement) (n : ℕ) (r : Bool) wh
     unfolding answerOf
     reset-set x = refl
 
--- so two actions, the timer's before the packet's, stand in the order in which they came
+-- so one action stands in the first place
+pub one-action : (p : Port) (x : Action) → withAction (takenWith p) x ≡ answerOf Outcome.Taken p MaybeMeasurement.None 0 (x ∷ []) false
+unfolding withAction answerOf places
+one-action p x = refl
+
+-- and two actions, the timer's before the packet's, stand in the order in which they came
 pub two-actions : (p : Port) (x y : Action) → withAction (withAction (takenWith p) x) y ≡ answerOf Outcome.Taken p MaybeMeasurement.None 0 (x ∷ y ∷ []) false
 unfolding withAction answerOf places
 two-actions p x y = refl

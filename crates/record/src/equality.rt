@@ -100,8 +100,8 @@ impl SlaveState {
 }
 
 impl PortState {
-    // A number for each state.
-    fn number(self) -> u8
+    // The number that the event log has for each state.
+    pub fn number(self) -> u8
         ensures { λ r. ⌜ r ≡ stateNumber self ⌝ }
     {
         match self {

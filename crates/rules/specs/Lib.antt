@@ -50,6 +50,7 @@ pub mod PeerRunLaws
 pub mod IeeePeerLaws
 pub mod IeeeDelayLaws
 pub mod ResponderLaws
+pub mod WritableLaws
 pub mod Running
 pub mod Examples
 pub mod ExamplesPeer

@@ -64,7 +64,7 @@ module _ (q : Port) (room : ℕ) where
 -- ---- what it sends reads as it was made, and means its stamps
 
 -- a fit record's own part of a header has room; what row 2 does not look at, its types give
-fit-sender : (q : Port) → unfit q ≡ false → q .config .domain < 256 → InWidths (q .config .identity) → InLimits (senderOf (q .config))
+pub fit-sender : (q : Port) → unfit q ≡ false → q .config .domain < 256 → InWidths (q .config .identity) → InLimits (senderOf (q .config))
 fit-sender q e domain identity =
     let c : FitConfig (q .config) = config-is (q .config) (fit-is q e .config) in
     record { sdo = c .sdo; minor = omega (arith, c .minor); domain = domain; identity = identity }

@@ -42,9 +42,9 @@ refusing : (P : Done → Type 0) (b : Bool) (o w : Outcome) → All P (cond b (r
 refusing P true o w = tt
 refusing P false o w = tt
 
-record Does (c : Config) (x : Option Due) (timers : List Action) (d : Done) : Type 0 where
-  message : Sends c x (d .message)
-  set : timersIn (d .actions) ≡ timers
+pub record Does (c : Config) (x : Option Due) (timers : List Action) (d : Done) : Type 0 where
+  pub message : Sends c x (d .message)
+  pub set : timersIn (d .actions) ≡ timers
 
 -- a test decides whether anything is due
 by-test : (P : Option Due → Done → Type 0) (b : Bool) (x : Option Due) (w v : Worked Done) → All (P x) w → All (P none) v → All (P (cond b x none)) (cond b w v)
@@ -64,7 +64,7 @@ known-timer P a ns next e f = subst (λ (y : TimerAnswer). All P (aTimer y then 
 
 module _ (p : Port) where
   -- for messages and stamps: no timer
-  abbrev Only : Option Due → Done → Type 0
+  abbrev pub Only : Option Due → Done → Type 0
   Only x d = Does (p .config) x [] d
 
   idle : Only none (changed p false)
@@ -75,7 +75,7 @@ module _ (p : Port) where
       all-settle (Only none) Silent tt q (record { message = tt; set = refl }) (λ s raw m. record { message = tt; set = refl })
       (λ s m. record { message = tt; set = refl }) (λ id i m. record { message = tt; set = refl })
 
-  on-general : (h : Header) (b : Body) (t : Time) → All (Only none) (onGeneral p h b t)
+  pub on-general : (h : Header) (b : Body) (t : Time) → All (Only none) (onGeneral p h b t)
   unfolding onGeneral
   on-general h (Body.Sync w) t = idle
   on-general h (Body.DelayReq w) t = idle
@@ -88,7 +88,7 @@ module _ (p : Port) where
       all-pDelayRespFollowUp (Only none) Silent tt p h requester t
       (record { other = λ us. idle; twice = λ us two. record { message = tt; set = refl }; same = λ us one e. idle; new = λ us one x e. settled (withPeer p x) })
 
-  on-event : (at : Time) (h : Header) (b : Body) (t : Time) → All (Only (heardDue p at h b t)) (onEvent p at h b t)
+  pub on-event : (at : Time) (h : Header) (b : Body) (t : Time) → All (Only (heardDue p at h b t)) (onEvent p at h b t)
   unfolding onEvent onGeneral delayReq
   on-event at h (Body.Sync w) t = all-sync (Only none) Silent tt p idle h t at (λ s e u f x g. settled (withSlave p (withSync s x)))
   on-event at h (Body.DelayReq w) t =
@@ -106,7 +106,7 @@ module _ (p : Port) where
   on-event at h (Body.DelayResp w requester) t = on-general h (Body.DelayResp w requester) t
   on-event at h (Body.PDelayRespFollowUp w requester) t = on-general h (Body.PDelayRespFollowUp w requester) t
 
-  on-stamp : (t : Time) (c : Context) → All (Only (stampDue p t c)) (stamped p t c)
+  pub on-stamp : (t : Time) (c : Context) → All (Only (stampDue p t c)) (stamped p t c)
   unfolding stamped
   on-stamp t (Context.Sync id) =
       let x : Option Due = ownDue M.FollowUp id (left t) in

@@ -1,0 +1,60 @@
+use mathlib.Core.Path.{sym}
+use Rattle.exchanges.proofs.Laws.{picked-other}
+use Rattle.rules.specs.Names.{PeerState}
+use Rattle.rules.specs.Worked.{worked}
+use Rattle.exchanges.specs.Changing.{peerChange}
+use borrow.Author.Tests.{eq-eqb}
+use Rattle.rules.specs.Exchanges.{Change, peerStamped}
+use borrow.Author.Needs.{needs}
+use Rattle.exchanges.proofs.peer.peer_stamped.Statement.{statement}
+use Rattle.exchanges.proofs.peer.peer_stamped.Tie as tie
+
+enum-told : tie.Need-enum-told
+enum-told c = search needs
+
+enum-known-held : tie.Need-enum-known-held
+enum-known-held c = search needs
+
+enum-told-2 : tie.Need-enum-told-2
+enum-told-2 c = search needs
+
+enum-told-3 : tie.Need-enum-told-3
+enum-told-3 c = search needs
+
+enum-told-4 : tie.Need-enum-told-4
+enum-told-4 c = search needs
+
+returns : tie.Need-returns
+unfolding peerStamped
+returns c = simp (c .enum-told .given .1)
+
+returns-2 : tie.Need-returns-2
+unfolding peerStamped
+returns-2 c = simp (c .enum-told2 .given .1, eq-eqb _ _ (c .before .before .if1 .taken), c .before .before .before .before .held .given .1)
+
+returns-3 : tie.Need-returns-3
+unfolding peerStamped
+returns-3 c = simp (c .enum-told3 .given .1, eq-eqb _ _ (c .before .before .if1 .taken), c .before .before .before .before .held .given .1)
+
+returns-4 : tie.Need-returns-4
+unfolding peerStamped
+returns-4 c = simp (c .before .before .held .given .1) (sym (picked-other (λ (x : Change PeerState). peerChange (worked x)) _ _ _ _ (c .if1 .left)))
+
+returns-5 : tie.Need-returns-5
+unfolding peerStamped
+returns-5 c = simp (c .enum-told4 .given .1)
+
+pub peer-stamped-spec : {M : Type 1} → statement M
+peer-stamped-spec =
+    tie.close
+    (tie.spec
+    enum-told
+    enum-known-held
+    enum-told-2
+    enum-told-3
+    enum-told-4
+    returns
+    returns-2
+    returns-3
+    returns-4
+    returns-5)

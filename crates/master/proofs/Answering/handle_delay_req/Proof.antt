@@ -1,0 +1,40 @@
+use mathlib.Core.Path.{sym, _∙_}
+use Rattle.rules.specs.Rules.{delayReq}
+use borrow.Author.Needs.{needs}
+use Rattle.master.proofs.Answering.handle_delay_req.Statement.{statement}
+use Rattle.master.proofs.Answering.handle_delay_req.Tie as tie
+
+is-master-requires : tie.Need-is-master-requires
+is-master-requires c κs = search needs
+
+sender-of-requires : tie.Need-sender-of-requires
+sender-of-requires c κs = search needs
+
+delay-resp-requires : tie.Need-delay-resp-requires
+delay-resp-requires c κs = search needs
+
+told-requires : tie.Need-told-requires
+told-requires c κs = search needs
+
+nothing-requires : tie.Need-nothing-requires
+nothing-requires c κs = search needs
+
+returns : tie.Need-returns
+unfolding delayReq
+returns c = simp (c .told .ensures, c .before .delay-resp .ensures, c .before .before .sender-of .ensures, sym (c .before .before .before .before .before .is-master .ensures) ∙ c .before .before .before .before .if1 .taken)
+
+returns-2 : tie.Need-returns-2
+unfolding delayReq
+returns-2 c = simp (c .nothing .ensures, sym (c .before .before .is-master .ensures) ∙ c .before .if1 .left)
+
+pub handle-delay-req-spec : {M : Type 1} → statement M
+handle-delay-req-spec =
+    tie.close
+    (tie.spec
+    is-master-requires
+    sender-of-requires
+    delay-resp-requires
+    told-requires
+    nothing-requires
+    returns
+    returns-2)

@@ -1,0 +1,179 @@
+-- What each rule of the measuring half comes to, by the answers that the code has found on its way.
+use Prim.Native.Nat.{ℕ}
+use mathlib.Core.Path.{_≡_, refl, ap, sym, _∙_}
+use mathlib.Core.Bool.{Bool, true, false, cond}
+use lib.IntN.{_+ℤ_, _-ℤ_}
+use Rattle.time.specs.Units.{time, timeOf, correction}
+use Rattle.time.specs.Timers.{delayTimerOf}
+use Rattle.rules.specs.Names.{Time, TimeAnswer, TimerAnswer, Mechanism, Identity, Header, Exchange, PeerState, PortState, SlaveState, Port, Context, Outcome}
+use Rattle.rules.specs.Worked.{Worked, worked, refused, _then_, aTime, aTimer, lessCorrection, plusCorrection}
+use Rattle.rules.specs.Events.{Done, nothing}
+use Rattle.rules.specs.Measuring.{settle, measureSync, measureDelay, measurePeer, complete}
+use Rattle.rules.specs.Exchanges.{Change, synced, followedUp, delayAnswered, delayStamped, peerStamped, secondResponder, responded, respondedLater}
+use Rattle.rules.specs.Rules.{toUs, keeping, sync, followUp, delayResp, becomesFaulty, peerAnswer, pDelayResp, pDelayRespFollowUp, stamped, delaySent, request}
+use Rattle.record.specs.Record.{withSync, withDelay, withSlave, withPeer, asSlave}
+use Rattle.record.specs.Same.{sameIdentity}
+use Rattle.exchanges.specs.Changing.{exchangeChange, peerChange}
+use Rattle.slave.specs.declared.Guard.{Guard}
+use Rattle.slave.specs.declared.Pair.{Pair}
+use Rattle.slave.specs.declared.PeerTimes.{PeerTimes}
+use Rattle.slave.specs.declared.MaybeSlave.{MaybeSlave}
+use Rattle.slave.specs.Taking.{pairOf, peerTimesOf, slaveIn, hearer, guardOf, kept, keptPeer}
+use Rattle.slave.proofs.CaseLaws.{slave-is, pair-is, peer-times-are, heard-is, kept-is, kept-peer-is}
+
+-- ---- extraction
+
+module _ (p : Port) where
+  pub settle-peer : (id : ℕ) (i : Identity) (t1 t2 t3 t4 : Time) → peerTimesOf (p .peer) ≡ PeerTimes.All id i t1 t2 t3 t4 → settle p ≡ measurePeer p id i t1 t2 t3 t4
+  unfolding settle
+  settle-peer id i t1 t2 t3 t4 e = peer-times-are (p .peer) (PeerTimes.All id i t1 t2 t3 t4) _ (measurePeer p) e
+
+  module _ (open′ : peerTimesOf (p .peer) ≡ PeerTimes.Missing) where
+    pub settle-nobody : slaveIn (p .state) ≡ MaybeSlave.None → settle p ≡ nothing p
+    unfolding settle
+    settle-nobody e = peer-times-are (p .peer) PeerTimes.Missing _ (measurePeer p) open′ ∙ slave-is (p .state) MaybeSlave.None (nothing p) _ e
+
+    module _ (s : SlaveState) (slave : slaveIn (p .state) ≡ MaybeSlave.Some s) where
+      settle-slave : settle p ≡ complete (s .sync) (complete (s .delay) (nothing p) (measureDelay p s)) (measureSync p s)
+      unfolding settle
+      settle-slave = peer-times-are (p .peer) PeerTimes.Missing _ (measurePeer p) open′ ∙ slave-is (p .state) (MaybeSlave.Some s) (nothing p) _ slave
+
+      pub settle-sync : (send receive : Time) → pairOf (s .sync) ≡ Pair.Both send receive → settle p ≡ measureSync p s send receive
+      settle-sync send receive e = settle-slave ∙ pair-is (s .sync) (Pair.Both send receive) _ (measureSync p s) e
+
+      settle-no-sync : pairOf (s .sync) ≡ Pair.Missing → settle p ≡ complete (s .delay) (nothing p) (measureDelay p s)
+      settle-no-sync e = settle-slave ∙ pair-is (s .sync) Pair.Missing _ (measureSync p s) e
+
+      pub settle-delay : (send receive : Time) → pairOf (s .sync) ≡ Pair.Missing → pairOf (s .delay) ≡ Pair.Both send receive → settle p ≡ measureDelay p s send receive
+      settle-delay send receive e f = settle-no-sync e ∙ pair-is (s .delay) (Pair.Both send receive) _ (measureDelay p s) f
+
+      pub settle-open : pairOf (s .sync) ≡ Pair.Missing → pairOf (s .delay) ≡ Pair.Missing → settle p ≡ nothing p
+      settle-open e f = settle-no-sync e ∙ pair-is (s .delay) Pair.Missing _ (measureDelay p s) f
+
+-- ---- a Slave's messages, which are heard or not; then the sum; then the exchange
+
+abbrev storeSync : Port → SlaveState → Exchange → Port
+storeSync p s x = withSlave p (withSync s x)
+
+abbrev storeDelay : Port → SlaveState → Exchange → Port
+storeDelay p s x = withSlave p (withDelay s x)
+
+-- a sum in front of what is kept
+sum-kept : (p : Port) (store : Exchange → Port) (change : Time → Change Exchange) (a : TimeAnswer) (t : Time) → a ≡ TimeAnswer.Value t → (aTime a then λ u. keeping p store (change u)) ≡ kept p store (exchangeChange (worked (change t)))
+sum-kept p store change a t e = ap (λ (x : TimeAnswer). aTime x then λ u. keeping p store (change u)) e ∙ sym (kept-is p store (worked (change t)))
+
+sum-out : (p : Port) (store : Exchange → Port) (change : Time → Change Exchange) (a : TimeAnswer) → a ≡ TimeAnswer.Out → (aTime a then λ u. keeping p store (change u)) ≡ refused Outcome.Range
+sum-out p store change a e = ap (λ (x : TimeAnswer). aTime x then λ u. keeping p store (change u)) e
+
+module _ (p : Port) (requester : Identity) (rule : Worked Done) where
+  is-to-us : sameIdentity (p .config .identity) requester ≡ true → toUs p requester rule ≡ rule
+  is-to-us e = ap (λ (t : Bool). cond t rule (nothing p)) e
+
+  not-to-us : sameIdentity (p .config .identity) requester ≡ false → toUs p requester rule ≡ nothing p
+  not-to-us e = ap (λ (t : Bool). cond t rule (nothing p)) e
+
+module _ (p : Port) (h : Header) where
+  module _ (origin at : Time) where
+    pub sync-unheard : hearer p h ≡ MaybeSlave.None → sync p h origin at ≡ nothing p
+    unfolding sync
+    sync-unheard e = heard-is p h MaybeSlave.None _ e
+
+    pub sync-out : (s : SlaveState) → hearer p h ≡ MaybeSlave.Some s → timeOf (time at -ℤ correction (h .correction)) ≡ TimeAnswer.Out → sync p h origin at ≡ refused Outcome.Range
+    unfolding sync lessCorrection
+    sync-out s e f = heard-is p h (MaybeSlave.Some s) _ e ∙ sum-out p (storeSync p s) (λ t. synced h origin t (s .sync)) _ f
+
+    pub sync-kept : (s : SlaveState) (t : Time) → hearer p h ≡ MaybeSlave.Some s → timeOf (time at -ℤ correction (h .correction)) ≡ TimeAnswer.Value t → sync p h origin at ≡ kept p (storeSync p s) (exchangeChange (worked (synced h origin t (s .sync))))
+    unfolding sync lessCorrection
+    sync-kept s t e f = heard-is p h (MaybeSlave.Some s) _ e ∙ sum-kept p (storeSync p s) (λ u. synced h origin u (s .sync)) _ t f
+
+  module _ (timestamp : Time) where
+    pub follow-unheard : hearer p h ≡ MaybeSlave.None → followUp p h timestamp ≡ nothing p
+    unfolding followUp
+    follow-unheard e = heard-is p h MaybeSlave.None _ e
+
+    pub follow-out : (s : SlaveState) → hearer p h ≡ MaybeSlave.Some s → timeOf (time timestamp +ℤ correction (h .correction)) ≡ TimeAnswer.Out → followUp p h timestamp ≡ refused Outcome.Range
+    unfolding followUp plusCorrection
+    follow-out s e f = heard-is p h (MaybeSlave.Some s) _ e ∙ sum-out p (storeSync p s) (λ t. followedUp (h .id) t (s .sync)) _ f
+
+    pub follow-kept : (s : SlaveState) (t : Time) → hearer p h ≡ MaybeSlave.Some s → timeOf (time timestamp +ℤ correction (h .correction)) ≡ TimeAnswer.Value t → followUp p h timestamp ≡ kept p (storeSync p s) (exchangeChange (worked (followedUp (h .id) t (s .sync))))
+    unfolding followUp plusCorrection
+    follow-kept s t e f = heard-is p h (MaybeSlave.Some s) _ e ∙ sum-kept p (storeSync p s) (λ u. followedUp (h .id) u (s .sync)) _ t f
+
+    -- ---- answers to a DelayReq, which have to be for us
+
+    module _ (requester : Identity) where
+      pub delay-foreign : sameIdentity (p .config .identity) requester ≡ false → delayResp p h requester timestamp ≡ nothing p
+      unfolding delayResp
+      delay-foreign e = not-to-us p requester _ e
+
+      pub delay-unheard : sameIdentity (p .config .identity) requester ≡ true → hearer p h ≡ MaybeSlave.None → delayResp p h requester timestamp ≡ nothing p
+      unfolding delayResp
+      delay-unheard e f = is-to-us p requester _ e ∙ heard-is p h MaybeSlave.None _ f
+
+      pub delay-kept : (s : SlaveState) → sameIdentity (p .config .identity) requester ≡ true → hearer p h ≡ MaybeSlave.Some s → delayResp p h requester timestamp ≡ kept p (storeDelay p s) (exchangeChange (delayAnswered (h .id) (lessCorrection timestamp h) (s .delay)))
+      unfolding delayResp
+      delay-kept s e f =
+          is-to-us p requester _ e ∙ heard-is p h (MaybeSlave.Some s) _ f
+          ∙ sym (kept-is p (storeDelay p s) (delayAnswered (h .id) (lessCorrection timestamp h) (s .delay)))
+
+  -- ---- answers to a PDelayReq
+
+  module _ (requester : Identity) (answer : Worked (Change PeerState)) where
+    abbrev ofGuard : Guard → Worked Done
+    ofGuard Guard.Foreign = nothing p
+    ofGuard Guard.Second = worked (becomesFaulty p)
+    ofGuard Guard.Ours = keptPeer p (withPeer p) (peerChange answer)
+
+    guard-cases : (us second : Bool) → cond us (cond second (worked (becomesFaulty p)) (answer then keeping p (withPeer p))) (nothing p) ≡ ofGuard (cond us (cond second Guard.Second Guard.Ours) Guard.Foreign)
+    guard-cases true true = refl
+    guard-cases true false = sym (kept-peer-is p (withPeer p) answer)
+    guard-cases false second = refl
+
+    peer-is : (g : Guard) → guardOf p h requester ≡ g → peerAnswer p h requester answer ≡ ofGuard g
+    unfolding peerAnswer guardOf
+    peer-is g e = guard-cases (sameIdentity (p .config .identity) requester) (secondResponder h (p .peer)) ∙ ap ofGuard e
+
+    pub peer-foreign : guardOf p h requester ≡ Guard.Foreign → peerAnswer p h requester answer ≡ nothing p
+    peer-foreign e = peer-is Guard.Foreign e
+
+    pub peer-second : guardOf p h requester ≡ Guard.Second → peerAnswer p h requester answer ≡ worked (becomesFaulty p)
+    peer-second e = peer-is Guard.Second e
+
+    pub peer-kept : guardOf p h requester ≡ Guard.Ours → peerAnswer p h requester answer ≡ keptPeer p (withPeer p) (peerChange answer)
+    peer-kept e = peer-is Guard.Ours e
+
+-- ---- stamps
+
+module _ (p : Port) (id : ℕ) (t : Time) where
+  pub delay-stamp-nobody : slaveIn (p .state) ≡ MaybeSlave.None → stamped p t (Context.DelayReq id) ≡ nothing p
+  unfolding stamped
+  delay-stamp-nobody e = slave-is (p .state) MaybeSlave.None (nothing p) _ e
+
+  pub delay-stamp-kept : (s : SlaveState) → slaveIn (p .state) ≡ MaybeSlave.Some s → stamped p t (Context.DelayReq id) ≡ kept p (storeDelay p s) (exchangeChange (worked (delayStamped id t (s .delay))))
+  unfolding stamped
+  delay-stamp-kept s e =
+      slave-is (p .state) (MaybeSlave.Some s) (nothing p) _ e ∙ sym (kept-is p (storeDelay p s) (worked (delayStamped id t (s .delay))))
+
+  pub peer-stamp-kept : stamped p t (Context.PDelayReq id) ≡ keptPeer p (withPeer p) (peerChange (worked (peerStamped id t (p .peer))))
+  unfolding stamped
+  peer-stamp-kept = sym (kept-peer-is p (withPeer p) (worked (peerStamped id t (p .peer))))
+
+-- ---- our own request, end to end
+
+module _ (p : Port) (draw : ℕ) where
+  pub request-nobody : slaveIn (p .state) ≡ MaybeSlave.None → request p draw Mechanism.EndToEnd ≡ nothing p
+  request-nobody e = slave-is (p .state) MaybeSlave.None (nothing p) _ e
+
+  module _ (s : SlaveState) (slave : slaveIn (p .state) ≡ MaybeSlave.Some s) where
+    request-timer : (a : TimerAnswer) → delayTimerOf (p .config .«delay_interval») draw ≡ a → request p draw Mechanism.EndToEnd ≡ (aTimer a then λ ns. worked (delaySent p s ns))
+    request-timer a e =
+        slave-is (p .state) (MaybeSlave.Some s) (nothing p) _ slave ∙ ap (λ (x : TimerAnswer). aTimer x then λ ns. worked (delaySent p s ns)) e
+
+    pub request-sent : (ns : ℕ) → delayTimerOf (p .config .«delay_interval») draw ≡ TimerAnswer.Value ns → request p draw Mechanism.EndToEnd ≡ worked (delaySent p s ns)
+    request-sent ns e = request-timer (TimerAnswer.Value ns) e
+
+    pub request-unfit : delayTimerOf (p .config .«delay_interval») draw ≡ TimerAnswer.Interval → request p draw Mechanism.EndToEnd ≡ refused Outcome.Unfit
+    request-unfit e = request-timer TimerAnswer.Interval e
+
+    pub request-limits : delayTimerOf (p .config .«delay_interval») draw ≡ TimerAnswer.Draw → request p draw Mechanism.EndToEnd ≡ refused Outcome.Limits
+    request-limits e = request-timer TimerAnswer.Draw e

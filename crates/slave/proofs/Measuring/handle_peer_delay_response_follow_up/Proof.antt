@@ -1,0 +1,65 @@
+use Rattle.handling.specs.Handling.{handledOf}
+use Rattle.slave.proofs.HandleLaws.{peer-foreign, peer-second, peer-kept}
+use Rattle.rules.specs.Rules.{pDelayRespFollowUp}
+use mathlib.Core.Path.{ap, sym, _∙_}
+use borrow.Author.Needs.{needs}
+use Rattle.slave.proofs.Measuring.handle_peer_delay_response_follow_up.Statement.{
+  statement,
+}
+use Rattle.slave.proofs.Measuring.handle_peer_delay_response_follow_up.Tie as tie
+
+peer-guard-requires : tie.Need-peer-guard-requires
+peer-guard-requires c κs = search needs
+
+enum-told : tie.Need-enum-told
+enum-told c = search needs
+
+nothing-requires : tie.Need-nothing-requires
+nothing-requires c κs = search needs
+
+enum-told-2 : tie.Need-enum-told-2
+enum-told-2 c = search needs
+
+with-state-requires : tie.Need-with-state-requires
+with-state-requires c κs = search needs
+
+changed-requires : tie.Need-changed-requires
+changed-requires c κs = search needs
+
+enum-told-3 : tie.Need-enum-told-3
+enum-told-3 c = search needs
+
+peer-responded-later-requires : tie.Need-peer-responded-later-requires
+peer-responded-later-requires c κs = search needs
+
+keep-peer-requires : tie.Need-keep-peer-requires
+keep-peer-requires c κs = search needs
+
+returns : tie.Need-returns
+unfolding pDelayRespFollowUp
+returns c = c .nothing .ensures ∙ ap (handledOf _) (sym (peer-foreign _ _ _ _ (sym (c .before .before .before .peer-guard .ensures) ∙ c .before .enum-told .given .1)))
+
+returns-2 : tie.Need-returns-2
+unfolding pDelayRespFollowUp
+returns-2 c = simp (c .changed .ensures, c .before .with-state .ensures) (ap (handledOf _) (sym (peer-second _ _ _ _ (sym (c .before .before .before .before .peer-guard .ensures) ∙ c .before .before .enum-told2 .given .1))))
+
+returns-3 : tie.Need-returns-3
+unfolding pDelayRespFollowUp
+returns-3 c = simp (c .keep-peer .ensures, c .before .peer-responded-later .ensures) (ap (handledOf _) (sym (peer-kept _ _ _ _ (sym (c .before .before .before .before .peer-guard .ensures) ∙ c .before .before .enum-told3 .given .1))))
+
+pub handle-peer-delay-response-follow-up-spec : {M : Type 1} → statement M
+handle-peer-delay-response-follow-up-spec =
+    tie.close
+    (tie.spec
+    peer-guard-requires
+    enum-told
+    nothing-requires
+    enum-told-2
+    with-state-requires
+    changed-requires
+    enum-told-3
+    peer-responded-later-requires
+    keep-peer-requires
+    returns
+    returns-2
+    returns-3)
