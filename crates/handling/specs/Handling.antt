@@ -1,5 +1,4 @@
 -- What a rule comes to, as the values that the code hands on: an answer, and perhaps a message that is yet to be written.
-use Prim.Native.Nat.{ℕ}
 use mathlib.Core.Option.{Option, none, some}
 use Rattle.rules.specs.Names.{Message, Outcome, Port}
 use Rattle.rules.specs.Worked.{Worked, worked, refused}

@@ -1,5 +1,5 @@
 -- Every message that a taken event has sent can be written: a buffer of 64 bytes or more, the least that row 1 lets pass, takes it whole.
-use Prim.Native.Nat.{ℕ, _^_, _≤_, _<_}
+use Prim.Native.Nat.{ℕ, _≤_, _<_}
 use mathlib.Core.Path.{_≡_, refl, sym, ap, _∙_, subst}
 use mathlib.Core.Bool.{false}
 use mathlib.Core.Option.{Option, none, some}
@@ -7,7 +7,7 @@ use native.Mathlib.Omega.{arith}
 use lib.Dec.{lit≤}
 use lib.ListN.{length}
 use Rattle.wire.specs.Layout.{messageBytes}
-use Rattle.wire.specs.LayoutLaws.{InWidths, HeaderWidths, header-widths}
+use Rattle.wire.specs.LayoutLaws.{HeaderWidths, header-widths}
 use Rattle.wire.specs.Reading.{readOf}
 use Rattle.wire.specs.ReadingLaws.{message-is}
 use Rattle.writing.specs.declared.Written.the-variants as W
@@ -20,41 +20,12 @@ use Rattle.rules.specs.Events.{Event, event, general, stamp, syncTimer, 
 use Rattle.rules.specs.Rules.{senderOf, onEvent, onGeneral, stamped, filtered, stateSet}
 use Rattle.rules.specs.Step.{ruleOf}
 use Rattle.rules.specs.Sending.{Due, stampDue, heardDue, Sends}
-use Rattle.rules.specs.Given.{BytesIn}
+use Rattle.rules.specs.Given.{StampIn, InTypes}
 use Rattle.rules.specs.AllLaws.{All, Silent, all-is, all-map}
 use Rattle.rules.specs.RuleLaws.{all-delayReq, all-pDelayReq, all-syncStamped, all-responseStamped, all-syncTimerEnds, all-delayTimerEnds}
 use Rattle.rules.specs.EveryLaws.{silent, all-viewed}
 use Rattle.rules.specs.SendingLaws.{Only, on-general, on-event, on-stamp}
 use Rattle.rules.specs.ResponderLaws.{fit-sender}
-
--- ---- what the types of a record and of an event say
-
--- a stamp's context
-abbrev pub StampIn : Context → Type 0
-StampIn (Context.Sync id) = id < 2 ^ 16
-StampIn (Context.DelayReq id) = id < 2 ^ 16
-StampIn (Context.PDelayReq id) = id < 2 ^ 16
-StampIn (Context.PDelayResp id requester) = (id < 2 ^ 16) × InWidths requester
-
-abbrev pub ContextIn : Event → Type 0
-ContextIn (event at message) = Unit {0}
-ContextIn (general message) = Unit {0}
-ContextIn (stamp at context) = StampIn context
-ContextIn syncTimer = Unit {0}
-ContextIn (delayTimer draw) = Unit {0}
-ContextIn (filterAnswer update) = Unit {0}
-ContextIn (setState new) = Unit {0}
-
-pub record InTypes (p : Port) (e : Event) : Type 0 where
-  pub domain : p .config .domain < 256
-  pub identity : InWidths (p .config .identity)
-  pub sync-interval : p .config .«sync_interval» < 256
-  pub delay-interval : p .config .«delay_interval» < 256
-  pub sync-id : p .ids .sync < 2 ^ 16
-  pub delay-id : p .ids .delay < 2 ^ 16
-  pub peer-id : p .ids .peer < 2 ^ 16
-  pub context : ContextIn e
-  pub bytes : BytesIn e
 
 -- ---- a message that any buffer of 64 bytes or more takes whole; where none is sent, nothing is said
 
@@ -117,17 +88,17 @@ module _ (p : Port) where
     unfolding ruleOf filtered stateSet
     rule-writes (event at l) k =
         all-viewed DoneWritable Silent silent (p .config) (readOf l) (onEvent p at) (λ h b t r.
-        event-writes (k .delay-interval) at h (subst HeaderWidths (sym (message-is l h b t r .header-is)) (header-widths l (k .bytes))) b t)
+        event-writes (k .port .delay-interval) at h (subst HeaderWidths (sym (message-is l h b t r .header-is)) (header-widths l (k .bytes))) b t)
     rule-writes (general l) k =
         all-viewed DoneWritable Silent silent (p .config) (readOf l) (onGeneral p) (λ h b t r. unsent none (onGeneral p h b t) refl (on-general p h b t))
-    rule-writes (stamp at c) k = stamp-writes (k .sync-interval) at c (k .context)
+    rule-writes (stamp at c) k = stamp-writes (k .port .sync-interval) at c (k .context)
     rule-writes syncTimer k =
         all-syncTimerEnds DoneWritable Silent tt tt p (λ n. tt) (λ master ns e.
-        buffer-takes _ 44 (lit≤ tt) (sync-sends (senderOf (p .config)) limits (p .ids .sync) (k .sync-id) (p .config .«sync_interval») (k .sync-interval)))
+        buffer-takes _ 44 (lit≤ tt) (sync-sends (senderOf (p .config)) limits (p .ids .sync) (k .port .sync-id) (p .config .«sync_interval») (k .port .sync-interval)))
     rule-writes (delayTimer draw) k =
         all-delayTimerEnds DoneWritable Silent tt tt p draw (λ n e. tt)
-        (λ s e m ns. buffer-takes _ 44 (lit≤ tt) (delay-req-sends (senderOf (p .config)) limits (p .ids .delay) (k .delay-id)))
-        (λ m ns. buffer-takes _ 54 (lit≤ tt) (pdelay-req-sends (senderOf (p .config)) limits (p .ids .peer) (k .peer-id)))
+        (λ s e m ns. buffer-takes _ 44 (lit≤ tt) (delay-req-sends (senderOf (p .config)) limits (p .ids .delay) (k .port .delay-id)))
+        (λ m ns. buffer-takes _ 54 (lit≤ tt) (pdelay-req-sends (senderOf (p .config)) limits (p .ids .peer) (k .port .peer-id)))
     rule-writes (filterAnswer u) k = tt
     rule-writes (setState new) k = tt
 
@@ -135,4 +106,4 @@ module _ (p : Port) where
 
 pub sent-writable : (p : Port) (e : Event) (d : Done) → InTypes p e → unfit p ≡ false → ruleOf p e ≡ worked d → Writable (d .message)
 sent-writable p e d k fit r =
-    all-is DoneWritable Silent (ruleOf p e) d r (rule-writes p (fit-sender p fit (k .domain) (k .identity)) e k)
+    all-is DoneWritable Silent (ruleOf p e) d r (rule-writes p (fit-sender p fit (k .port .domain) (k .port .identity)) e k)

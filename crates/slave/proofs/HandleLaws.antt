@@ -5,13 +5,13 @@ use mathlib.Core.Bool.{Bool, true, false, cond}
 use lib.IntN.{_+ℤ_, _-ℤ_}
 use Rattle.time.specs.Units.{time, timeOf, correction}
 use Rattle.time.specs.Timers.{delayTimerOf}
-use Rattle.rules.specs.Names.{Time, TimeAnswer, TimerAnswer, Mechanism, Identity, Header, Exchange, PeerState, PortState, SlaveState, Port, Context, Outcome}
+use Rattle.rules.specs.Names.{Time, TimeAnswer, TimerAnswer, Mechanism, Identity, Header, Exchange, PeerState, SlaveState, Port, Context, Outcome}
 use Rattle.rules.specs.Worked.{Worked, worked, refused, _then_, aTime, aTimer, lessCorrection, plusCorrection}
 use Rattle.rules.specs.Events.{Done, nothing}
 use Rattle.rules.specs.Measuring.{settle, measureSync, measureDelay, measurePeer, complete}
-use Rattle.rules.specs.Exchanges.{Change, synced, followedUp, delayAnswered, delayStamped, peerStamped, secondResponder, responded, respondedLater}
-use Rattle.rules.specs.Rules.{toUs, keeping, sync, followUp, delayResp, becomesFaulty, peerAnswer, pDelayResp, pDelayRespFollowUp, stamped, delaySent, request}
-use Rattle.record.specs.Record.{withSync, withDelay, withSlave, withPeer, asSlave}
+use Rattle.rules.specs.Exchanges.{Change, synced, followedUp, delayAnswered, delayStamped, peerStamped, secondResponder}
+use Rattle.rules.specs.Rules.{toUs, keeping, sync, followUp, delayResp, becomesFaulty, peerAnswer, stamped, delaySent, request}
+use Rattle.record.specs.Record.{withSync, withDelay, withSlave, withPeer}
 use Rattle.record.specs.Same.{sameIdentity}
 use Rattle.exchanges.specs.Changing.{exchangeChange, peerChange}
 use Rattle.slave.specs.declared.Guard.{Guard}

@@ -1,7 +1,6 @@
 -- The cases of crate `rules`' definitions, as the values that the code answers.
-use Prim.Native.Nat.{ℕ}
 use mathlib.Core.Bool.{cond}
-use Rattle.rules.specs.Names.{Time, Duration, Identity, Header, Exchange, PeerState, PortState, SlaveState, MaybeDuration, Port}
+use Rattle.rules.specs.Names.{Time, Duration, Identity, Header, Exchange, PeerState, PortState, MaybeDuration, Port}
 use Rattle.rules.specs.Worked.{Worked, worked, refused, _then_, elapsed, lessDuration}
 use Rattle.rules.specs.Events.{Done, nothing}
 use Rattle.rules.specs.Measuring.{complete, peerComplete, settle}

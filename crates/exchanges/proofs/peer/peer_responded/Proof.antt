@@ -1,9 +1,9 @@
-use Rattle.exchanges.proofs.Laws.{picked-other}
-use Rattle.exchanges.specs.Changing.{peerChange}
 use borrow.Author.Tests.{eq-eqb}
 use mathlib.Core.Path.{sym, _∙_}
 use Rattle.rules.specs.Exchanges.{responded}
 use Rattle.rules.specs.Worked.{lessCorrection}
+use Rattle.exchanges.proofs.Laws.{picked-other}
+use Rattle.exchanges.specs.Changing.{peerChange}
 use borrow.Author.Needs.{needs}
 use Rattle.exchanges.proofs.peer.peer_responded.Statement.{statement}
 use Rattle.exchanges.proofs.peer.peer_responded.Tie as tie

@@ -1,10 +1,10 @@
+use borrow.Author.Tests.{eq-eqb}
 use mathlib.Core.Path.{sym}
-use Rattle.exchanges.proofs.Laws.{picked-other}
+use Rattle.rules.specs.Exchanges.{Change, peerStamped}
 use Rattle.rules.specs.Names.{PeerState}
 use Rattle.rules.specs.Worked.{worked}
+use Rattle.exchanges.proofs.Laws.{picked-other}
 use Rattle.exchanges.specs.Changing.{peerChange}
-use borrow.Author.Tests.{eq-eqb}
-use Rattle.rules.specs.Exchanges.{Change, peerStamped}
 use borrow.Author.Needs.{needs}
 use Rattle.exchanges.proofs.peer.peer_stamped.Statement.{statement}
 use Rattle.exchanges.proofs.peer.peer_stamped.Tie as tie

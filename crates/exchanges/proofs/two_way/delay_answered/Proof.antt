@@ -1,9 +1,9 @@
-use Rattle.exchanges.proofs.Laws.{picked-other}
-use Rattle.exchanges.specs.Changing.{exchangeChange}
 use borrow.Author.Tests.{eq-eqb}
 use mathlib.Core.Path.{sym, _∙_}
 use Rattle.rules.specs.Exchanges.{delayAnswered}
 use Rattle.rules.specs.Worked.{lessCorrection}
+use Rattle.exchanges.proofs.Laws.{picked-other}
+use Rattle.exchanges.specs.Changing.{exchangeChange}
 use borrow.Author.Needs.{needs}
 use Rattle.exchanges.proofs.two_way.delay_answered.Statement.{statement}
 use Rattle.exchanges.proofs.two_way.delay_answered.Tie as tie

@@ -1,10 +1,10 @@
+use borrow.Author.Tests.{eq-eqb}
 use mathlib.Core.Path.{sym}
-use Rattle.exchanges.proofs.Laws.{picked-other}
+use Rattle.rules.specs.Exchanges.{Change, delayStamped}
 use Rattle.rules.specs.Names.{Exchange}
 use Rattle.rules.specs.Worked.{worked}
+use Rattle.exchanges.proofs.Laws.{picked-other}
 use Rattle.exchanges.specs.Changing.{exchangeChange}
-use borrow.Author.Tests.{eq-eqb}
-use Rattle.rules.specs.Exchanges.{Change, delayStamped}
 use borrow.Author.Needs.{needs}
 use Rattle.exchanges.proofs.two_way.delay_stamped.Statement.{statement}
 use Rattle.exchanges.proofs.two_way.delay_stamped.Tie as tie

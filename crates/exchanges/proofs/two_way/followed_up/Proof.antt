@@ -1,11 +1,10 @@
+use borrow.Author.Tests.{eq-eqb}
 use mathlib.Core.Path.{sym}
-use Rattle.exchanges.proofs.Laws.{picked-other}
-use Rattle.rules.specs.Exchanges.{Change}
+use Rattle.rules.specs.Exchanges.{Change, followedUp}
 use Rattle.rules.specs.Names.{Exchange}
 use Rattle.rules.specs.Worked.{worked}
+use Rattle.exchanges.proofs.Laws.{picked-other}
 use Rattle.exchanges.specs.Changing.{exchangeChange}
-use borrow.Author.Tests.{eq-eqb, ne-eqb}
-use Rattle.rules.specs.Exchanges.{followedUp}
 use borrow.Author.Needs.{needs}
 use Rattle.exchanges.proofs.two_way.followed_up.Statement.{statement}
 use Rattle.exchanges.proofs.two_way.followed_up.Tie as tie

@@ -1,9 +1,9 @@
 use mathlib.Core.Path.{sym}
-use Rattle.exchanges.proofs.Laws.{picked-other, picked-same}
+use Rattle.rules.specs.Exchanges.{Change, oneStepSync}
 use Rattle.rules.specs.Names.{Exchange}
 use Rattle.rules.specs.Worked.{worked}
+use Rattle.exchanges.proofs.Laws.{picked-other, picked-same}
 use Rattle.exchanges.specs.Changing.{exchangeChange}
-use Rattle.rules.specs.Exchanges.{Change, oneStepSync}
 use borrow.Author.Needs.{needs}
 use Rattle.exchanges.proofs.two_way.one_step_sync.Statement.{statement}
 use Rattle.exchanges.proofs.two_way.one_step_sync.Tie as tie

@@ -1,10 +1,10 @@
+use borrow.Author.Tests.{eq-eqb}
 use mathlib.Core.Path.{sym}
-use Rattle.exchanges.proofs.Laws.{picked-other}
+use Rattle.rules.specs.Exchanges.{Change, twoStepSync}
 use Rattle.rules.specs.Names.{Exchange}
 use Rattle.rules.specs.Worked.{worked}
+use Rattle.exchanges.proofs.Laws.{picked-other}
 use Rattle.exchanges.specs.Changing.{exchangeChange}
-use borrow.Author.Tests.{eq-eqb}
-use Rattle.rules.specs.Exchanges.{Change, twoStepSync}
 use borrow.Author.Needs.{needs}
 use Rattle.exchanges.proofs.two_way.two_step_sync.Statement.{statement}
 use Rattle.exchanges.proofs.two_way.two_step_sync.Tie as tie

@@ -1,6 +1,6 @@
+use mathlib.Core.Path.{ap, sym, _∙_}
 use Rattle.handling.specs.Handling.{handledOf}
 use Rattle.slave.proofs.HandleLaws.{delay-unheard, delay-kept, delay-foreign}
-use mathlib.Core.Path.{ap, sym, _∙_}
 use borrow.Author.Needs.{needs}
 use Rattle.slave.proofs.Measuring.handle_delay_resp.Statement.{statement}
 use Rattle.slave.proofs.Measuring.handle_delay_resp.Tie as tie

@@ -1,6 +1,6 @@
+use mathlib.Core.Path.{ap, sym, _∙_}
 use Rattle.handling.specs.Handling.{handledOf}
 use Rattle.slave.proofs.HandleLaws.{delay-stamp-nobody, delay-stamp-kept}
-use mathlib.Core.Path.{ap, sym, _∙_}
 use borrow.Author.Needs.{needs}
 use Rattle.slave.proofs.Measuring.handle_delay_timestamp.Statement.{statement}
 use Rattle.slave.proofs.Measuring.handle_delay_timestamp.Tie as tie

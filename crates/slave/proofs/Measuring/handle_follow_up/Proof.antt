@@ -1,6 +1,6 @@
+use mathlib.Core.Path.{ap, sym, _∙_}
 use Rattle.handling.specs.Handling.{handledOf}
 use Rattle.slave.proofs.HandleLaws.{follow-unheard, follow-kept, follow-out}
-use mathlib.Core.Path.{ap, sym, _∙_}
 use borrow.Author.Needs.{needs}
 use Rattle.slave.proofs.Measuring.handle_follow_up.Statement.{statement}
 use Rattle.slave.proofs.Measuring.handle_follow_up.Tie as tie

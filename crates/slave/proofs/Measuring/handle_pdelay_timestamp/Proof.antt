@@ -1,4 +1,4 @@
-use mathlib.Core.Path.{ap, sym, _∙_}
+use mathlib.Core.Path.{ap, sym}
 use Rattle.handling.specs.Handling.{handledOf}
 use Rattle.slave.proofs.HandleLaws.{peer-stamp-kept}
 use borrow.Author.Needs.{needs}

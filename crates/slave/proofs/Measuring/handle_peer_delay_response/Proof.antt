@@ -1,7 +1,7 @@
-use Rattle.handling.specs.Handling.{handledOf}
-use Rattle.slave.proofs.HandleLaws.{peer-foreign, peer-second, peer-kept}
-use Rattle.rules.specs.Rules.{pDelayResp}
 use mathlib.Core.Path.{ap, sym, _∙_}
+use Rattle.handling.specs.Handling.{handledOf}
+use Rattle.rules.specs.Rules.{pDelayResp}
+use Rattle.slave.proofs.HandleLaws.{peer-foreign, peer-second, peer-kept}
 use borrow.Author.Needs.{needs}
 use Rattle.slave.proofs.Measuring.handle_peer_delay_response.Statement.{statement}
 use Rattle.slave.proofs.Measuring.handle_peer_delay_response.Tie as tie

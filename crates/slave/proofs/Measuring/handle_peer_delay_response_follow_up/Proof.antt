@@ -1,7 +1,7 @@
-use Rattle.handling.specs.Handling.{handledOf}
-use Rattle.slave.proofs.HandleLaws.{peer-foreign, peer-second, peer-kept}
-use Rattle.rules.specs.Rules.{pDelayRespFollowUp}
 use mathlib.Core.Path.{ap, sym, _∙_}
+use Rattle.handling.specs.Handling.{handledOf}
+use Rattle.rules.specs.Rules.{pDelayRespFollowUp}
+use Rattle.slave.proofs.HandleLaws.{peer-foreign, peer-second, peer-kept}
 use borrow.Author.Needs.{needs}
 use Rattle.slave.proofs.Measuring.handle_peer_delay_response_follow_up.Statement.{
   statement,

@@ -1,6 +1,6 @@
+use mathlib.Core.Path.{ap, sym, _∙_}
 use Rattle.handling.specs.Handling.{handledOf}
 use Rattle.slave.proofs.HandleLaws.{sync-unheard, sync-kept, sync-out}
-use mathlib.Core.Path.{ap, sym, _∙_}
 use borrow.Author.Needs.{needs}
 use Rattle.slave.proofs.Measuring.handle_sync.Statement.{statement}
 use Rattle.slave.proofs.Measuring.handle_sync.Tie as tie

@@ -1,6 +1,6 @@
+use mathlib.Core.Path.{ap, sym, _∙_}
 use Rattle.handling.specs.Handling.{handledOf}
 use Rattle.slave.proofs.HandleLaws.{request-nobody, request-sent, request-unfit, request-limits}
-use mathlib.Core.Path.{ap, sym, _∙_}
 use borrow.Author.Needs.{needs}
 use Rattle.slave.proofs.Measuring.send_e2e_delay_request.Statement.{statement}
 use Rattle.slave.proofs.Measuring.send_e2e_delay_request.Tie as tie

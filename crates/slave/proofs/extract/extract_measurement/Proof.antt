@@ -1,6 +1,6 @@
+use mathlib.Core.Path.{ap, sym, _∙_}
 use Rattle.handling.specs.Handling.{handledOf}
 use Rattle.slave.proofs.HandleLaws.{settle-peer, settle-nobody, settle-sync, settle-delay, settle-open}
-use mathlib.Core.Path.{ap, sym, _∙_}
 use borrow.Author.Needs.{needs}
 use Rattle.slave.proofs.extract.extract_measurement.Statement.{statement}
 use Rattle.slave.proofs.extract.extract_measurement.Tie as tie

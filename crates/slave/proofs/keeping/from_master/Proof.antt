@@ -1,5 +1,5 @@
-use Rattle.slave.proofs.CaseLaws.{hearer-none, hearer-some, hearer-other}
 use mathlib.Core.Path.{sym, _∙_}
+use Rattle.slave.proofs.CaseLaws.{hearer-none, hearer-some, hearer-other}
 use borrow.Author.Needs.{needs}
 use Rattle.slave.proofs.keeping.from_master.Statement.{statement}
 use Rattle.slave.proofs.keeping.from_master.Tie as tie

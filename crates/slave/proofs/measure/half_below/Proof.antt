@@ -1,6 +1,5 @@
-use Rattle.slave.proofs.MeasureLaws.{half-is}
 use mathlib.Core.Path.{sym, _∙_}
-use Rattle.rules.specs.Worked.{lessDuration}
+use Rattle.slave.proofs.MeasureLaws.{half-is}
 use borrow.Author.Needs.{needs}
 use Rattle.slave.proofs.measure.half_below.Statement.{statement}
 use Rattle.slave.proofs.measure.half_below.Tie as tie

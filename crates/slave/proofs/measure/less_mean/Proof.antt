@@ -1,6 +1,5 @@
-use Rattle.slave.proofs.MeasureLaws.{offset-is}
 use mathlib.Core.Path.{sym, _∙_}
-use Rattle.rules.specs.Worked.{lessDuration}
+use Rattle.slave.proofs.MeasureLaws.{offset-is}
 use borrow.Author.Needs.{needs}
 use Rattle.slave.proofs.measure.less_mean.Statement.{statement}
 use Rattle.slave.proofs.measure.less_mean.Tie as tie

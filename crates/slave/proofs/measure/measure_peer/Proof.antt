@@ -1,8 +1,7 @@
-use mathlib.Core.Path.{ap}
+use mathlib.Core.Path.{ap, sym, _∙_}
 use Rattle.handling.specs.Handling.{handledOf}
 use Rattle.rules.specs.Worked.{aDuration}
 use Rattle.slave.proofs.MeasureLaws.{peer-out, peer-measured}
-use mathlib.Core.Path.{sym, _∙_}
 use borrow.Author.Needs.{needs}
 use Rattle.slave.proofs.measure.measure_peer.Statement.{statement}
 use Rattle.slave.proofs.measure.measure_peer.Tie as tie

@@ -1,9 +1,8 @@
-use mathlib.Core.Path.{ap}
+use mathlib.Core.Path.{ap, sym, _∙_}
 use Rattle.handling.specs.Handling.{handledOf}
 use Rattle.rules.specs.Worked.{aDuration}
-use Rattle.slave.specs.Taking.{aPart}
 use Rattle.slave.proofs.MeasureLaws.{sync-out, sync-refused, sync-measured}
-use mathlib.Core.Path.{sym, _∙_}
+use Rattle.slave.specs.Taking.{aPart}
 use borrow.Author.Needs.{needs}
 use Rattle.slave.proofs.measure.measure_sync.Statement.{statement}
 use Rattle.slave.proofs.measure.measure_sync.Tie as tie

@@ -1,7 +1,6 @@
 use mathlib.Core.Path.{sym, _∙_}
+use Rattle.rules.specs.Worked.{elapsed, lessDuration}
 use Rattle.slave.specs.Taking.{rawBetween}
-use Rattle.rules.specs.Worked.{elapsed}
-use Rattle.rules.specs.Worked.{lessDuration}
 use borrow.Author.Needs.{needs}
 use Rattle.slave.proofs.measure.raw_between.Statement.{statement}
 use Rattle.slave.proofs.measure.raw_between.Tie as tie

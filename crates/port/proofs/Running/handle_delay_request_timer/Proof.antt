@@ -1,0 +1,64 @@
+use Rattle.rules.specs.Events.{delayTimer}
+use Rattle.rules.specs.Table.{row3}
+use Rattle.rules.specs.Step.{ruleOf}
+use Rattle.port.specs.EntryLaws.{ready, sent, shut}
+use borrow.Author.Needs.{needs}
+use Rattle.port.proofs.Running.handle_delay_request_timer.Statement.{statement}
+use Rattle.port.proofs.Running.handle_delay_request_timer.Tie as tie
+
+draw-out-requires : tie.Need-draw-out-requires
+draw-out-requires c κs = search needs
+
+of-requires : tie.Need-of-requires
+of-requires c κs = search needs
+
+enum-told : tie.Need-enum-told
+enum-told c = search needs
+
+send-delay-request-requires : tie.Need-send-delay-request-requires
+send-delay-request-requires c κs = search needs
+
+send-requires : tie.Need-send-requires
+unfolding ruleOf row3
+send-requires c κs =
+    let handled = c .before in
+    let gate = handled .before .before .before in
+    ready _ (delayTimer _) (gate .before .before .before .before .args .packet .now) _ _ (gate .before .draw-out .ensures) (gate .of .ensures .0) _ (handled .before .enum-told .given .1) (handled .send-delay-request .ensures) (gate .of .ensures .1) tt tt
+
+enum-known-gate : tie.Need-enum-known-gate
+enum-known-gate c = search needs
+
+refused-requires : tie.Need-refused-requires
+refused-requires c κs = search needs
+
+same-length : tie.Need-same-length
+same-length c = search needs
+
+returns : tie.Need-returns
+unfolding ruleOf row3
+returns c =
+    let send = c .before .before in
+    let handled = send .before .before in
+    let gate = handled .before .before .before in
+    sent _ (delayTimer _) _ _ _ (gate .before .draw-out .ensures) (gate .of .ensures .0) _ (handled .before .enum-told .given .1) (handled .send-delay-request .ensures) _ _ (send .send .ensures .0) (send .send .ensures .1)
+
+returns-2 : tie.Need-returns-2
+unfolding ruleOf row3
+returns-2 c =
+    let gate = c .before .before .before .before in
+    shut _ (delayTimer _) _ _ _ (gate .before .draw-out .ensures) (gate .of .ensures .0) _ _ (c .before .before .gate .given .1) (c .refused .ensures)
+
+pub handle-delay-request-timer-spec : {M : Type 1} → statement M
+handle-delay-request-timer-spec =
+    tie.close
+    (tie.spec
+    draw-out-requires
+    of-requires
+    enum-told
+    send-delay-request-requires
+    send-requires
+    enum-known-gate
+    refused-requires
+    same-length
+    returns
+    returns-2)

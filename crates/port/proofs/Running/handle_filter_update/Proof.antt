@@ -1,0 +1,61 @@
+use mathlib.Core.Path.{refl}
+use Rattle.rules.specs.Events.{filterAnswer}
+use Rattle.rules.specs.Table.{row3}
+use Rattle.rules.specs.Step.{ruleOf}
+use Rattle.port.specs.EntryLaws.{ready, sent, shut}
+use borrow.Author.Needs.{needs}
+use Rattle.port.proofs.Running.handle_filter_update.Statement.{statement}
+use Rattle.port.proofs.Running.handle_filter_update.Tie as tie
+
+of-requires : tie.Need-of-requires
+of-requires c κs = search needs
+
+enum-told : tie.Need-enum-told
+enum-told c = search needs
+
+on-filter-requires : tie.Need-on-filter-requires
+on-filter-requires c κs = search needs
+
+send-requires : tie.Need-send-requires
+unfolding ruleOf row3
+send-requires c κs =
+    let handled = c .before in
+    let gate = handled .before .before .before in
+    ready _ (filterAnswer _) (gate .before .before .before .args .packet .now) _ _ refl (gate .of .ensures .0) _ (handled .before .enum-told .given .1) (handled .on-filter .ensures) (gate .of .ensures .1) tt tt
+
+enum-known-gate : tie.Need-enum-known-gate
+enum-known-gate c = search needs
+
+refused-requires : tie.Need-refused-requires
+refused-requires c κs = search needs
+
+same-length : tie.Need-same-length
+same-length c = search needs
+
+returns : tie.Need-returns
+unfolding ruleOf row3
+returns c =
+    let send = c .before .before in
+    let handled = send .before .before in
+    let gate = handled .before .before .before in
+    sent _ (filterAnswer _) _ _ _ refl (gate .of .ensures .0) _ (handled .before .enum-told .given .1) (handled .on-filter .ensures) _ _ (send .send .ensures .0) (send .send .ensures .1)
+
+returns-2 : tie.Need-returns-2
+unfolding ruleOf row3
+returns-2 c =
+    let gate = c .before .before .before .before in
+    shut _ (filterAnswer _) _ _ _ refl (gate .of .ensures .0) _ _ (c .before .before .gate .given .1) (c .refused .ensures)
+
+pub handle-filter-update-spec : {M : Type 1} → statement M
+handle-filter-update-spec =
+    tie.close
+    (tie.spec
+    of-requires
+    enum-told
+    on-filter-requires
+    send-requires
+    enum-known-gate
+    refused-requires
+    same-length
+    returns
+    returns-2)

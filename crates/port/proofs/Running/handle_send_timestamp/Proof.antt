@@ -1,0 +1,64 @@
+use Rattle.rules.specs.Events.{stamp}
+use Rattle.rules.specs.Table.{row3}
+use Rattle.rules.specs.Step.{ruleOf}
+use Rattle.port.specs.EntryLaws.{ready, sent, shut}
+use borrow.Author.Needs.{needs}
+use Rattle.port.proofs.Running.handle_send_timestamp.Statement.{statement}
+use Rattle.port.proofs.Running.handle_send_timestamp.Tie as tie
+
+time-out-requires : tie.Need-time-out-requires
+time-out-requires c κs = search needs
+
+of-requires : tie.Need-of-requires
+of-requires c κs = search needs
+
+enum-told : tie.Need-enum-told
+enum-told c = search needs
+
+on-stamp-requires : tie.Need-on-stamp-requires
+on-stamp-requires c κs = search needs
+
+send-requires : tie.Need-send-requires
+unfolding ruleOf row3
+send-requires c κs =
+    let handled = c .before in
+    let gate = handled .before .before .before in
+    ready _ (stamp _ _) (gate .before .before .before .before .args .packet .now) _ _ (gate .before .time-out .ensures) (gate .of .ensures .0) _ (handled .before .enum-told .given .1) (handled .on-stamp .ensures .0) (gate .of .ensures .1) (handled .on-stamp .ensures .1) tt
+
+enum-known-gate : tie.Need-enum-known-gate
+enum-known-gate c = search needs
+
+refused-requires : tie.Need-refused-requires
+refused-requires c κs = search needs
+
+same-length : tie.Need-same-length
+same-length c = search needs
+
+returns : tie.Need-returns
+unfolding ruleOf row3
+returns c =
+    let send = c .before .before in
+    let handled = send .before .before in
+    let gate = handled .before .before .before in
+    sent _ (stamp _ _) _ _ _ (gate .before .time-out .ensures) (gate .of .ensures .0) _ (handled .before .enum-told .given .1) (handled .on-stamp .ensures .0) _ _ (send .send .ensures .0) (send .send .ensures .1)
+
+returns-2 : tie.Need-returns-2
+unfolding ruleOf row3
+returns-2 c =
+    let gate = c .before .before .before .before in
+    shut _ (stamp _ _) _ _ _ (gate .before .time-out .ensures) (gate .of .ensures .0) _ _ (c .before .before .gate .given .1) (c .refused .ensures)
+
+pub handle-send-timestamp-spec : {M : Type 1} → statement M
+handle-send-timestamp-spec =
+    tie.close
+    (tie.spec
+    time-out-requires
+    of-requires
+    enum-told
+    on-stamp-requires
+    send-requires
+    enum-known-gate
+    refused-requires
+    same-length
+    returns
+    returns-2)

@@ -1,0 +1,137 @@
+-- The laws that end every entry: a shut gate is what `step` refuses, and behind an open one what is sent is what `step` answers.
+use Prim.Native.Nat.{ℕ, _≤_}
+use mathlib.Core.Path.{_≡_, refl, sym, ap, _∙_, subst}
+use mathlib.Core.Bool.{Bool, true, false, cond}
+use mathlib.Core.List.{List, _++_}
+use mathlib.Core.Option.{Option, none, some}
+use lib.Dec.{ltb}
+use lib.ListN.{length, drop}
+use borrow.Author.Tests.{ltb-false}
+use Rattle.wire.specs.BytesLaws.{apart}
+use Rattle.record.specs.declared.Answer.{Answer}
+use Rattle.record.specs.Answers.{answerOf, refusedWith}
+use Rattle.record.specs.Fit.{unfit}
+use Rattle.rules.specs.Names.{Time, Header, Body, Reading, Message, Config, Port, Outcome, MaybeMeasurement, Action}
+use Rattle.rules.specs.Worked.{Worked, worked, refused}
+use Rattle.rules.specs.Events.{Event, Done, Result, packet, refusal, answered}
+use Rattle.rules.specs.Table.{row1, row3, ours}
+use Rattle.rules.specs.Step.{unless, viewed, ruleOf, step}
+use Rattle.rules.specs.RefusalLaws.{step-rule}
+use Rattle.rules.specs.Given.{BytesIn, ContextIn, PortIn, InTypes}
+use Rattle.rules.specs.WritableLaws.{Writable, sent-writable}
+use Rattle.handling.specs.declared.Handled.{Handled}
+use Rattle.handling.specs.Handling.{maybeMessage, handedOn, turnedDown, handledOf}
+use Rattle.port.specs.declared.gates.Gate.{Gate}
+use Rattle.port.specs.declared.hearing.Heard.{Heard}
+use Rattle.port.specs.Entries.{answerFor, bufferAfter, Answers}
+use Rattle.port.specs.Pieces.{shutBy, gateOf, oursOr, heardOf, ruled, Ready, answerSent, bufferSent}
+
+-- ---- rows 4, 5, 6 and 8: what is heard goes to its rule as `ruleOf` has it
+
+ruled-ours : (test : Bool) (heard : Heard) (rule : Header → Body → Time → Worked Done) → cond test (ruled heard rule) (refused Outcome.Foreign) ≡ ruled (oursOr test heard) rule
+ruled-ours true heard rule = refl
+ruled-ours false heard rule = refl
+
+pub heard-viewed : (c : Config) (r : Reading) (rule : Header → Body → Time → Worked Done) → viewed c r rule ≡ ruled (heardOf c r) rule
+heard-viewed c (Reading.Message h b t) rule = ruled-ours (ours c h) (Heard.Message h b t) rule
+heard-viewed c (Reading.Host h) rule = ruled-ours (ours c h) (Heard.Refused Outcome.Host) rule
+heard-viewed c Reading.Version rule = refl
+heard-viewed c Reading.Malformed rule = refl
+
+-- ---- rows 1, 2 and 3
+
+pub record IsOpen (p : Port) (room : ℕ) (limits : Bool) : Type 0 where
+  pub enough : ltb room 64 ≡ false
+  pub fit : unfit p ≡ false
+  pub within : limits ≡ false
+
+open-picked : (short bad limits : Bool) → shutBy short Outcome.Buffer (shutBy bad Outcome.Unfit (shutBy limits Outcome.Limits Gate.Open)) ≡ Gate.Open → (short ≡ false) × (bad ≡ false) × (limits ≡ false)
+open-picked true bad limits e = absurd (apart cc)
+open-picked false true limits e = absurd (apart cc)
+open-picked false false true e = absurd (apart cc)
+open-picked false false false e = (refl, refl, refl)
+
+pub gate-open : (p : Port) (room : ℕ) (limits : Bool) → gateOf p room limits ≡ Gate.Open → IsOpen p room limits
+unfolding gateOf
+gate-open p room limits g =
+    let (a, b, c) = open-picked (ltb room 64) (unfit p) limits g in
+    record { enough = a; fit = b; within = c }
+
+shut-picked : (short bad limits : Bool) (o : Outcome) (w : Worked Done) → shutBy short Outcome.Buffer (shutBy bad Outcome.Unfit (shutBy limits Outcome.Limits Gate.Open)) ≡ Gate.Shut o → unless short Outcome.Buffer (unless bad Outcome.Unfit (unless limits Outcome.Limits w)) ≡ refused o
+shut-picked true bad limits o w e = cc
+shut-picked false true limits o w e = cc
+shut-picked false false true o w e = cc
+shut-picked false false false o w e = absurd (apart cc)
+
+pub gate-shut : (p : Port) (e : Event) (room : ℕ) (o : Outcome) → gateOf p room (row3 e) ≡ Gate.Shut o → step p room e ≡ refusal o p
+unfolding gateOf step row1
+gate-shut p e room o g = ap (answered p) (shut-picked (ltb room 64) (unfit p) (row3 e) o (ruleOf p e) g)
+
+-- ---- what is told of a refusal, and of what is handed on and then sent
+
+refusal-told : (o : Outcome) (p : Port) (l : List ℕ) → (refusedWith o p ≡ answerFor (refusal o p)) × (l ≡ bufferAfter (refusal o p) l)
+unfolding answerFor bufferAfter
+refusal-told o p l = (refl, refl)
+
+-- a message's bytes are what `packet` has, and their number is the answer's length
+module _ (p : Port) (k : MaybeMeasurement) (as′ : List Action) (r : Bool) where
+  answer-told : (m : Option Message) → answerSent (maybeMessage m) (answerOf Outcome.Taken p k 0 as′ r) ≡ answerOf Outcome.Taken p k (length (packet m)) as′ r
+  unfolding answerOf
+  answer-told none = refl
+  answer-told (some m) = refl
+
+buffer-told : (m : Option Message) (l : List ℕ) → bufferSent (maybeMessage m) l ≡ packet m ++ drop (length (packet m)) l
+unfolding bufferSent
+buffer-told none l = refl
+buffer-told (some m) l = refl
+
+handled-told : (p : Port) (w : Worked Done) (l : List ℕ) → (answerSent (handledOf p w .message) (handledOf p w .answer) ≡ answerFor (answered p w)) × (bufferSent (handledOf p w .message) l ≡ bufferAfter (answered p w) l)
+unfolding handedOn turnedDown answerFor bufferAfter bufferSent
+handled-told p (worked d) l =
+    (answer-told (d .port) (d .measurement) (d .actions) (d .reset) (d .message), buffer-told (d .message) l)
+handled-told p (refused o) l = (refl, refl)
+
+-- ---- what a rule sends, a buffer of 64 bytes takes
+
+taken-ready : (m : Option Message) (room : ℕ) → 64 ≤ room → Writable m → Ready (maybeMessage m) room
+taken-ready none room h k = tt
+taken-ready (some m) room h k = k room h
+
+rule-ready : (p : Port) (e : Event) (w : Worked Done) (room : ℕ) → 64 ≤ room → InTypes p e → unfit p ≡ false → ruleOf p e ≡ w → Ready (handledOf p w .message) room
+unfolding handedOn turnedDown
+rule-ready p e (worked d) room h k fit r = taken-ready (d .message) room h (sent-writable p e d k fit r)
+rule-ready p e (refused o) room h k fit r = tt
+
+-- ---- the two ends of every entry: `limits` is its test of row 3, g the gate's answer
+
+module _ (p : Port) (e : Event) (l : List ℕ) (limits : Bool) (g : Gate) (row : limits ≡ row3 e) (is : g ≡ gateOf p (length l) limits) where
+  gate-is : gateOf p (length l) (row3 e) ≡ g
+  gate-is = ap (gateOf p (length l)) (sym row) ∙ sym is
+
+  -- the gate is shut
+  pub shut : (o : Outcome) (a : Answer) → g ≡ Gate.Shut o → a ≡ refusedWith o p → Answers p e l a l
+  shut o a closed r =
+      let s : step p (length l) e ≡ refusal o p = gate-shut p e (length l) o (gate-is ∙ closed) in
+      let (x, y) = refusal-told o p l in
+      (r ∙ x ∙ ap answerFor (sym s), y ∙ ap (λ (z : Result). bufferAfter z l) (sym s))
+
+  -- it is open, and h is what the event's handler hands on
+  module _ (h : Handled) (opened : g ≡ Gate.Open) (r : h ≡ handledOf p (ruleOf p e)) where
+    passed : IsOpen p (length l) (row3 e)
+    passed = gate-open p (length l) (row3 e) (gate-is ∙ opened)
+
+    -- the buffer takes what is to be sent
+    pub ready : PortIn p → ContextIn e → BytesIn e → Ready (h .message) (length l)
+    ready t context bytes =
+        subst (λ (z : Handled). Ready (z .message) (length l)) (sym r)
+        (rule-ready p e (ruleOf p e) (length l) (ltb-false (length l) 64 (passed .enough)) (record { port = t; context = context; bytes = bytes }) (passed .fit) refl)
+
+    -- and once it is sent, the entry has answered
+    pub sent : (a : Answer) (left : List ℕ) → a ≡ answerSent (h .message) (h .answer) → left ≡ bufferSent (h .message) l → Answers p e l a left
+    unfolding row1
+    sent a left x y =
+        let s : step p (length l) e ≡ answered p (ruleOf p e) = step-rule p (length l) e (passed .enough) (passed .fit) (passed .within) in
+        let (v, w) = handled-told p (ruleOf p e) l in (
+          x ∙ ap (λ (z : Handled). answerSent (z .message) (z .answer)) r ∙ v ∙ ap answerFor (sym s),
+          y ∙ ap (λ (z : Handled). bufferSent (z .message) l) r ∙ w ∙ ap (λ (z : Result). bufferAfter z l) (sym s),
+        )
