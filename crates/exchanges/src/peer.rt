@@ -2,8 +2,8 @@
 ghost use mathlib.Core.Path.{_≡_};
 ghost use mathlib.Core.Bool.{cond};
 ghost use Rattle.wire.specs.Layout.{twoStep};
-ghost use Rattle.rules.specs.Worked.{worked, lessCorrection, plusCorrection};
-ghost use Rattle.rules.specs.Exchanges.{another, peerStamped, secondResponder, responded, respondedLater};
+ghost use Rattle.rules.specs.Worked.{worked, _then_, lessCorrection, plusCorrection};
+ghost use Rattle.rules.specs.Exchanges.{becomes, another, peerStamped, secondResponder, withResponse, responded, withFollowUp, respondedLater};
 ghost use Rattle.exchanges.specs.Changing.{peerChange};
 use crate::PeerChange;
 use record::MaybeIdentity;
@@ -96,13 +96,40 @@ fn response_left(header: Header, request_receive: Time, response_send: MaybeTime
     }
 }
 
+// A response that is awaited: the sum, and with it two times, or three of a one-step response.
+fn response_taken(
+    header: Header,
+    body: Time,
+    received: Time,
+    id: u16,
+    request_send: MaybeTime,
+    response_send: MaybeTime,
+) -> PeerChange
+    ensures { λ r. ⌜ r ≡ peerChange (lessCorrection received header then λ t. worked (becomes (withResponse header body id «request_send» «response_send» t))) ⌝ }
+{
+    let source = header.source;
+    let sum = received.minus_correction(header.correction);
+    match sum {
+        TimeAnswer::Value(t) => {
+            let left = response_left(header, body, response_send);
+            PeerChange::Becomes(PeerState::Measuring {
+                id,
+                responder: MaybeIdentity::Some(source),
+                request_send,
+                request_receive: MaybeTime::Some(body),
+                response_send: left,
+                response_receive: MaybeTime::Some(t),
+            })
+        }
+        TimeAnswer::Out => PeerChange::Refused(Outcome::Range),
+    }
+}
+
 // A PDelayResp, received at this time. The sum is worked out only where it is awaited.
 pub fn peer_responded(held: PeerState, header: Header, body: Time, received: Time) -> PeerChange
     ensures { λ r. ⌜ r ≡ peerChange (responded header body (lessCorrection received header) held) ⌝ }
 {
     let sequence = header.id;
-    let source = header.source;
-    let correction = header.correction;
     match held {
         PeerState::Empty => PeerChange::Stays,
         PeerState::Measuring {
@@ -117,21 +144,7 @@ pub fn peer_responded(held: PeerState, header: Header, body: Time, received: Tim
                 match response_receive {
                     MaybeTime::Some(_) => PeerChange::Stays,
                     MaybeTime::None => {
-                        let sum = received.minus_correction(correction);
-                        match sum {
-                            TimeAnswer::Value(t) => {
-                                let left = response_left(header, body, response_send);
-                                PeerChange::Becomes(PeerState::Measuring {
-                                    id,
-                                    responder: MaybeIdentity::Some(source),
-                                    request_send,
-                                    request_receive: MaybeTime::Some(body),
-                                    response_send: left,
-                                    response_receive: MaybeTime::Some(t),
-                                })
-                            }
-                            TimeAnswer::Out => PeerChange::Refused(Outcome::Range),
-                        }
+                        response_taken(header, body, received, id, request_send, response_send)
                     }
                 }
             } else {
@@ -145,13 +158,37 @@ pub fn peer_responded(held: PeerState, header: Header, body: Time, received: Tim
     }
 }
 
-// Its follow-up, which brings the response send time.
+// A follow-up that is awaited: the sum is the response send time.
+fn follow_up_taken(
+    header: Header,
+    timestamp: Time,
+    id: u16,
+    request_send: MaybeTime,
+    request_receive: MaybeTime,
+    response_receive: MaybeTime,
+) -> PeerChange
+    ensures { λ r. ⌜ r ≡ peerChange (plusCorrection timestamp header then λ t. worked (becomes (withFollowUp header id «request_send» «request_receive» «response_receive» t))) ⌝ }
+{
+    let source = header.source;
+    let sum = timestamp.plus_correction(header.correction);
+    match sum {
+        TimeAnswer::Value(t) => PeerChange::Becomes(PeerState::Measuring {
+            id,
+            responder: MaybeIdentity::Some(source),
+            request_send,
+            request_receive,
+            response_send: MaybeTime::Some(t),
+            response_receive,
+        }),
+        TimeAnswer::Out => PeerChange::Refused(Outcome::Range),
+    }
+}
+
+// A PDelayRespFollowUp, which brings the response send time.
 pub fn peer_responded_later(held: PeerState, header: Header, timestamp: Time) -> PeerChange
     ensures { λ r. ⌜ r ≡ peerChange (respondedLater header (plusCorrection timestamp header) held) ⌝ }
 {
     let sequence = header.id;
-    let source = header.source;
-    let correction = header.correction;
     match held {
         PeerState::Empty => PeerChange::Stays,
         PeerState::Measuring {
@@ -166,18 +203,14 @@ pub fn peer_responded_later(held: PeerState, header: Header, timestamp: Time) ->
                 match response_send {
                     MaybeTime::Some(_) => PeerChange::Stays,
                     MaybeTime::None => {
-                        let sum = timestamp.plus_correction(correction);
-                        match sum {
-                            TimeAnswer::Value(t) => PeerChange::Becomes(PeerState::Measuring {
-                                id,
-                                responder: MaybeIdentity::Some(source),
-                                request_send,
-                                request_receive,
-                                response_send: MaybeTime::Some(t),
-                                response_receive,
-                            }),
-                            TimeAnswer::Out => PeerChange::Refused(Outcome::Range),
-                        }
+                        follow_up_taken(
+                            header,
+                            timestamp,
+                            id,
+                            request_send,
+                            request_receive,
+                            response_receive,
+                        )
                     }
                 }
             } else {

@@ -5,21 +5,24 @@ ghost use Rattle.port.specs.Pieces.{gateOf};
 use record::Outcome;
 use record::Port;
 
+// Whatever the event is, and whether it sends or not.
+const LEAST_BUFFER: usize = 64;
+
 pub enum Gate {
     Open,
     Shut(Outcome),
 }
 
 impl Gate {
-    // The room is the packet buffer's; limits is whether the event brings a time or a draw out of limits.
+    // The room is the packet buffer's; limits is whether the event brings a time or a draw out of limits. What the types
+    // of a record say of its numbers is promised here once, for every message that is made of them.
     pub(crate) fn of(port: Port, room: usize, limits: bool) -> Gate
         ensures { λ r. ⌜ (r ≡ gateOf port room limits) × PortIn port ⌝ }
     {
-        let unfit = port.is_unfit();
-        if room < 64 {
+        if room < LEAST_BUFFER {
             return Gate::Shut(Outcome::Buffer);
         }
-        if unfit {
+        if port.is_unfit() {
             return Gate::Shut(Outcome::Unfit);
         }
         if limits {

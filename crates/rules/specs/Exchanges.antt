@@ -107,8 +107,12 @@ responded h body sum (PeerState.Measuring held responder requestSend requestRece
 responded h body sum (PeerState.Measured held responder) = worked stays
 
 -- its follow-up, once, while the request is measuring
+abbrev pub withFollowUp : Header → ℕ → MaybeTime → MaybeTime → MaybeTime → Time → PeerState
+withFollowUp h held requestSend requestReceive responseReceive t =
+    PeerState.Measuring held (MaybeIdentity.Some (h .source)) requestSend requestReceive (MaybeTime.Some t) responseReceive
+
 unfoldable pub respondedLater : Header → Worked Time → PeerState → Worked (Change PeerState)
 respondedLater h sum PeerState.Empty = worked stays
 respondedLater h sum (PeerState.Measuring held responder requestSend requestReceive responseSend responseReceive) =
-    awaited (eqb held (h .id)) responseSend sum (λ t. PeerState.Measuring held (MaybeIdentity.Some (h .source)) requestSend requestReceive (MaybeTime.Some t) responseReceive)
+    awaited (eqb held (h .id)) responseSend sum (withFollowUp h held requestSend requestReceive responseReceive)
 respondedLater h sum (PeerState.Measured held responder) = worked stays

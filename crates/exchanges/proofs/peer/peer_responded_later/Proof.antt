@@ -1,7 +1,6 @@
 use borrow.Author.Tests.{eq-eqb}
-use mathlib.Core.Path.{sym, _∙_}
+use mathlib.Core.Path.{sym}
 use Rattle.rules.specs.Exchanges.{respondedLater}
-use Rattle.rules.specs.Worked.{plusCorrection}
 use Rattle.exchanges.proofs.Laws.{picked-other}
 use Rattle.exchanges.specs.Changing.{peerChange}
 use borrow.Author.Needs.{needs}
@@ -20,41 +19,31 @@ enum-told-2 c = search needs
 enum-told-3 : tie.Need-enum-told-3
 enum-told-3 c = search needs
 
-plus-correction-requires : tie.Need-plus-correction-requires
-plus-correction-requires c κs = search needs
-
-enum-known-sum : tie.Need-enum-known-sum
-enum-known-sum c = search needs
+follow-up-taken-requires : tie.Need-follow-up-taken-requires
+follow-up-taken-requires c κs = search needs
 
 enum-told-4 : tie.Need-enum-told-4
 enum-told-4 c = search needs
 
-enum-told-5 : tie.Need-enum-told-5
-enum-told-5 c = search needs
-
 returns : tie.Need-returns
-unfolding respondedLater plusCorrection
+unfolding respondedLater
 returns c = simp (c .enum-told .given .1)
 
 returns-2 : tie.Need-returns-2
-unfolding respondedLater plusCorrection
+unfolding respondedLater
 returns-2 c = simp (c .enum-told2 .given .1, eq-eqb _ _ (c .before .before .if1 .taken), c .before .before .before .before .held .given .1)
 
 returns-3 : tie.Need-returns-3
-unfolding respondedLater plusCorrection
-returns-3 c = simp (sym (c .before .before .before .plus-correction .ensures) ∙ c .before .sum .given .1, c .before .before .before .before .enum-told3 .given .1, eq-eqb _ _ (c .before .before .before .before .before .before .if1 .taken), c .before .before .before .before .before .before .before .before .held .given .1)
+unfolding respondedLater
+returns-3 c = simp (c .follow-up-taken .ensures, c .before .enum-told3 .given .1, eq-eqb _ _ (c .before .before .before .if1 .taken), c .before .before .before .before .before .held .given .1)
 
 returns-4 : tie.Need-returns-4
-unfolding respondedLater plusCorrection
-returns-4 c = simp (sym (c .before .before .plus-correction .ensures) ∙ c .enum-told4 .given .1, c .before .before .before .enum-told3 .given .1, eq-eqb _ _ (c .before .before .before .before .before .if1 .taken), c .before .before .before .before .before .before .before .held .given .1)
+unfolding respondedLater
+returns-4 c = simp (c .before .before .held .given .1) (sym (picked-other peerChange _ _ _ _ (c .if1 .left)))
 
 returns-5 : tie.Need-returns-5
-unfolding respondedLater plusCorrection
-returns-5 c = simp (c .before .before .held .given .1) (sym (picked-other (peerChange) _ _ _ _ (c .if1 .left)))
-
-returns-6 : tie.Need-returns-6
-unfolding respondedLater plusCorrection
-returns-6 c = simp (c .enum-told5 .given .1)
+unfolding respondedLater
+returns-5 c = simp (c .enum-told4 .given .1)
 
 pub peer-responded-later-spec : {M : Type 1} → statement M
 peer-responded-later-spec =
@@ -64,13 +53,10 @@ peer-responded-later-spec =
     enum-known-held
     enum-told-2
     enum-told-3
-    plus-correction-requires
-    enum-known-sum
+    follow-up-taken-requires
     enum-told-4
-    enum-told-5
     returns
     returns-2
     returns-3
     returns-4
-    returns-5
-    returns-6)
+    returns-5)

@@ -20,32 +20,30 @@ bounds s =
       peer-id = omega (arith, s .good);
     }
 
-is-unfit-requires : tie.Need-is-unfit-requires
-is-unfit-requires c κs = search needs
-
 returns : tie.Need-returns
 unfolding gateOf
-returns c =
-    let s = c .before .before in
-    (simp (lt-ltb (s .args .room) 64 (omega (arith, c .if1 .taken))), bounds s)
+returns c = (simp (lt-ltb (c .before .args .room) 64 (omega (arith, c .if1 .taken))), bounds (c .before))
+
+is-unfit-requires : tie.Need-is-unfit-requires
+is-unfit-requires c κs = search needs
 
 returns-2 : tie.Need-returns-2
 unfolding gateOf
 returns-2 c =
     let s = c .before .before .before in
-    (simp (le-ltb (s .args .room) 64 (omega (arith, c .before .if1 .left)), sym (c .before .before .is-unfit .ensures), c .if2 .taken), bounds s)
+    (simp (le-ltb (s .args .room) 64 (omega (arith, c .before .before .if1 .left)), sym (c .before .is-unfit .ensures), c .if2 .taken), bounds s)
 
 returns-3 : tie.Need-returns-3
 unfolding gateOf
 returns-3 c =
     let s = c .before .before .before .before in
-    (simp (le-ltb (s .args .room) 64 (omega (arith, c .before .before .if1 .left)), sym (c .before .before .before .is-unfit .ensures), c .before .if2 .left, c .if3 .taken), bounds s)
+    (simp (le-ltb (s .args .room) 64 (omega (arith, c .before .before .before .if1 .left)), sym (c .before .before .is-unfit .ensures), c .before .if2 .left, c .if3 .taken), bounds s)
 
 returns-4 : tie.Need-returns-4
 unfolding gateOf
 returns-4 c =
     let s = c .before .before .before .before in
-    (simp (le-ltb (s .args .room) 64 (omega (arith, c .before .before .if1 .left)), sym (c .before .before .before .is-unfit .ensures), c .before .if2 .left, c .if3 .left), bounds s)
+    (simp (le-ltb (s .args .room) 64 (omega (arith, c .before .before .before .if1 .left)), sym (c .before .before .is-unfit .ensures), c .before .if2 .left, c .if3 .left), bounds s)
 
 pub of-spec : {M : Type 1} → statement M
-of-spec = tie.close (tie.spec is-unfit-requires returns returns-2 returns-3 returns-4)
+of-spec = tie.close (tie.spec returns is-unfit-requires returns-2 returns-3 returns-4)
