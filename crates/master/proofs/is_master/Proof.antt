@@ -3,7 +3,7 @@ use Rattle.master.proofs.is_master.Statement.{statement}
 use Rattle.master.proofs.is_master.Tie as tie
 
 number-requires : tie.Need-number-requires
-number-requires c κs = search needs
+number-requires c κs = tt
 
 returns : tie.Need-returns
 returns c = simp (c .number .ensures)

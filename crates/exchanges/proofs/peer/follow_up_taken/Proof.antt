@@ -5,7 +5,7 @@ use Rattle.exchanges.proofs.peer.follow_up_taken.Statement.{statement}
 use Rattle.exchanges.proofs.peer.follow_up_taken.Tie as tie
 
 plus-correction-requires : tie.Need-plus-correction-requires
-plus-correction-requires c κs = search needs
+plus-correction-requires c κs = tt
 
 enum-known-sum : tie.Need-enum-known-sum
 enum-known-sum c = search needs

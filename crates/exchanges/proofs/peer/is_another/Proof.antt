@@ -9,7 +9,7 @@ enum-known-responder : tie.Need-enum-known-responder
 enum-known-responder c = search needs
 
 same-identity-requires : tie.Need-same-identity-requires
-same-identity-requires c κs = search needs
+same-identity-requires c κs = tt
 
 returns : tie.Need-returns
 returns c = search needs

@@ -20,7 +20,7 @@ enum-told-3 : tie.Need-enum-told-3
 enum-told-3 c = search needs
 
 response-taken-requires : tie.Need-response-taken-requires
-response-taken-requires c κs = search needs
+response-taken-requires c κs = tt
 
 enum-told-4 : tie.Need-enum-told-4
 enum-told-4 c = search needs

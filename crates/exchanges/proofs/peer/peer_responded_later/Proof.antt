@@ -20,7 +20,7 @@ enum-told-3 : tie.Need-enum-told-3
 enum-told-3 c = search needs
 
 follow-up-taken-requires : tie.Need-follow-up-taken-requires
-follow-up-taken-requires c κs = search needs
+follow-up-taken-requires c κs = tt
 
 enum-told-4 : tie.Need-enum-told-4
 enum-told-4 c = search needs

@@ -4,7 +4,7 @@ use Rattle.exchanges.proofs.peer.response_left.Statement.{statement}
 use Rattle.exchanges.proofs.peer.response_left.Tie as tie
 
 is-two-step-requires : tie.Need-is-two-step-requires
-is-two-step-requires c κs = search needs
+is-two-step-requires c κs = tt
 
 returns : tie.Need-returns
 returns c = simp (sym (c .before .is-two-step .ensures) ∙ c .if1 .taken)

@@ -5,13 +5,13 @@ use Rattle.exchanges.proofs.peer.response_taken.Statement.{statement}
 use Rattle.exchanges.proofs.peer.response_taken.Tie as tie
 
 minus-correction-requires : tie.Need-minus-correction-requires
-minus-correction-requires c κs = search needs
+minus-correction-requires c κs = tt
 
 enum-known-sum : tie.Need-enum-known-sum
 enum-known-sum c = search needs
 
 response-left-requires : tie.Need-response-left-requires
-response-left-requires c κs = search needs
+response-left-requires c κs = tt
 
 enum-told : tie.Need-enum-told
 enum-told c = search needs

@@ -10,13 +10,13 @@ enum-known-held : tie.Need-enum-known-held
 enum-known-held c = search needs
 
 is-another-requires : tie.Need-is-another-requires
-is-another-requires c κs = search needs
+is-another-requires c κs = tt
 
 enum-known-held-2 : tie.Need-enum-known-held-2
 enum-known-held-2 c = search needs
 
 is-another-requires-2 : tie.Need-is-another-requires-2
-is-another-requires-2 c κs = search needs
+is-another-requires-2 c κs = tt
 
 returns : tie.Need-returns
 unfolding secondResponder

@@ -21,7 +21,7 @@ enum-told-3 : tie.Need-enum-told-3
 enum-told-3 c = search needs
 
 minus-correction-requires : tie.Need-minus-correction-requires
-minus-correction-requires c κs = search needs
+minus-correction-requires c κs = tt
 
 enum-known-sum : tie.Need-enum-known-sum
 enum-known-sum c = search needs

@@ -4,13 +4,13 @@ use Rattle.exchanges.proofs.two_way.sync_received.Statement.{statement}
 use Rattle.exchanges.proofs.two_way.sync_received.Tie as tie
 
 is-two-step-requires : tie.Need-is-two-step-requires
-is-two-step-requires c κs = search needs
+is-two-step-requires c κs = tt
 
 two-step-sync-requires : tie.Need-two-step-sync-requires
-two-step-sync-requires c κs = search needs
+two-step-sync-requires c κs = tt
 
 one-step-sync-requires : tie.Need-one-step-sync-requires
-one-step-sync-requires c κs = search needs
+one-step-sync-requires c κs = tt
 
 returns : tie.Need-returns
 returns c = simp (c .two-step-sync .ensures, sym (c .before .before .is-two-step .ensures) ∙ c .before .if1 .taken)

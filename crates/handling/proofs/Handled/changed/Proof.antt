@@ -5,10 +5,10 @@ use Rattle.handling.proofs.Handled.changed.Statement.{statement}
 use Rattle.handling.proofs.Handled.changed.Tie as tie
 
 taken-requires : tie.Need-taken-requires
-taken-requires c κs = search needs
+taken-requires c κs = tt
 
 with-reset-requires : tie.Need-with-reset-requires
-with-reset-requires c κs = search needs
+with-reset-requires c κs = tt
 
 returns : tie.Need-returns
 unfolding handedOn answerOf

@@ -5,13 +5,13 @@ use Rattle.handling.proofs.Handled.measured.Statement.{statement}
 use Rattle.handling.proofs.Handled.measured.Tie as tie
 
 taken-requires : tie.Need-taken-requires
-taken-requires c κs = search needs
+taken-requires c κs = tt
 
 with-measurement-requires : tie.Need-with-measurement-requires
-with-measurement-requires c κs = search needs
+with-measurement-requires c κs = tt
 
 with-reset-requires : tie.Need-with-reset-requires
-with-reset-requires c κs = search needs
+with-reset-requires c κs = tt
 
 returns : tie.Need-returns
 unfolding handedOn answerOf

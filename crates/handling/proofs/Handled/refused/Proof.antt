@@ -4,7 +4,7 @@ use Rattle.handling.proofs.Handled.refused.Statement.{statement}
 use Rattle.handling.proofs.Handled.refused.Tie as tie
 
 refused-requires : tie.Need-refused-requires
-refused-requires c κs = search needs
+refused-requires c κs = tt
 
 returns : tie.Need-returns
 unfolding turnedDown

@@ -5,13 +5,13 @@ use Rattle.handling.proofs.Handled.sending_timed.Statement.{statement}
 use Rattle.handling.proofs.Handled.sending_timed.Tie as tie
 
 taken-requires : tie.Need-taken-requires
-taken-requires c κs = search needs
+taken-requires c κs = tt
 
 with-action-requires : tie.Need-with-action-requires
-with-action-requires c κs = search needs
+with-action-requires c κs = tt
 
 with-action-requires-2 : tie.Need-with-action-requires-2
-with-action-requires-2 c κs = search needs
+with-action-requires-2 c κs = tt
 
 returns : tie.Need-returns
 unfolding handedOn

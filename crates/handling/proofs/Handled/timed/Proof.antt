@@ -5,10 +5,10 @@ use Rattle.handling.proofs.Handled.timed.Statement.{statement}
 use Rattle.handling.proofs.Handled.timed.Tie as tie
 
 taken-requires : tie.Need-taken-requires
-taken-requires c κs = search needs
+taken-requires c κs = tt
 
 with-action-requires : tie.Need-with-action-requires
-with-action-requires c κs = search needs
+with-action-requires c κs = tt
 
 returns : tie.Need-returns
 unfolding handedOn

@@ -5,19 +5,19 @@ use Rattle.master.proofs.Answering.handle_delay_req.Statement.{statemen
 use Rattle.master.proofs.Answering.handle_delay_req.Tie as tie
 
 is-master-requires : tie.Need-is-master-requires
-is-master-requires c κs = search needs
+is-master-requires c κs = tt
 
 sender-of-requires : tie.Need-sender-of-requires
-sender-of-requires c κs = search needs
+sender-of-requires c κs = tt
 
 delay-resp-requires : tie.Need-delay-resp-requires
-delay-resp-requires c κs = search needs
+delay-resp-requires c κs = tt
 
 told-requires : tie.Need-told-requires
-told-requires c κs = search needs
+told-requires c κs = tt
 
 nothing-requires : tie.Need-nothing-requires
-nothing-requires c κs = search needs
+nothing-requires c κs = tt
 
 returns : tie.Need-returns
 unfolding delayReq

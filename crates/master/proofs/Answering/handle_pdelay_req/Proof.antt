@@ -4,13 +4,13 @@ use Rattle.master.proofs.Answering.handle_pdelay_req.Statement.{stateme
 use Rattle.master.proofs.Answering.handle_pdelay_req.Tie as tie
 
 sender-of-requires : tie.Need-sender-of-requires
-sender-of-requires c κs = search needs
+sender-of-requires c κs = tt
 
 pdelay-resp-requires : tie.Need-pdelay-resp-requires
-pdelay-resp-requires c κs = search needs
+pdelay-resp-requires c κs = tt
 
 told-requires : tie.Need-told-requires
-told-requires c κs = search needs
+told-requires c κs = tt
 
 returns : tie.Need-returns
 unfolding pDelayReq

@@ -4,13 +4,13 @@ use Rattle.master.proofs.Answering.handle_pdelay_response_timestamp.Sta
 use Rattle.master.proofs.Answering.handle_pdelay_response_timestamp.Tie as tie
 
 sender-of-requires : tie.Need-sender-of-requires
-sender-of-requires c κs = search needs
+sender-of-requires c κs = tt
 
 pdelay-resp-follow-up-requires : tie.Need-pdelay-resp-follow-up-requires
-pdelay-resp-follow-up-requires c κs = search needs
+pdelay-resp-follow-up-requires c κs = tt
 
 told-requires : tie.Need-told-requires
-told-requires c κs = search needs
+told-requires c κs = tt
 
 returns : tie.Need-returns
 unfolding stamped

@@ -5,19 +5,19 @@ use Rattle.master.proofs.Answering.handle_sync_timestamp.Statement.{sta
 use Rattle.master.proofs.Answering.handle_sync_timestamp.Tie as tie
 
 is-master-requires : tie.Need-is-master-requires
-is-master-requires c κs = search needs
+is-master-requires c κs = tt
 
 sender-of-requires : tie.Need-sender-of-requires
-sender-of-requires c κs = search needs
+sender-of-requires c κs = tt
 
 follow-up-requires : tie.Need-follow-up-requires
-follow-up-requires c κs = search needs
+follow-up-requires c κs = tt
 
 told-requires : tie.Need-told-requires
-told-requires c κs = search needs
+told-requires c κs = tt
 
 nothing-requires : tie.Need-nothing-requires
-nothing-requires c κs = search needs
+nothing-requires c κs = tt
 
 returns : tie.Need-returns
 unfolding stamped

@@ -5,31 +5,31 @@ use Rattle.master.proofs.Answering.send_sync.Statement.{statement}
 use Rattle.master.proofs.Answering.send_sync.Tie as tie
 
 is-master-requires : tie.Need-is-master-requires
-is-master-requires c κs = search needs
+is-master-requires c κs = tt
 
 sync-timer-requires : tie.Need-sync-timer-requires
-sync-timer-requires c κs = search needs
+sync-timer-requires c κs = tt
 
 enum-known-timer : tie.Need-enum-known-timer
 enum-known-timer c = search needs
 
 sync-sent-requires : tie.Need-sync-sent-requires
-sync-sent-requires c κs = search needs
+sync-sent-requires c κs = tt
 
 enum-told : tie.Need-enum-told
 enum-told c = search needs
 
 refused-requires : tie.Need-refused-requires
-refused-requires c κs = search needs
+refused-requires c κs = tt
 
 enum-told-2 : tie.Need-enum-told-2
 enum-told-2 c = search needs
 
 refused-requires-2 : tie.Need-refused-requires-2
-refused-requires-2 c κs = search needs
+refused-requires-2 c κs = tt
 
 nothing-requires : tie.Need-nothing-requires
-nothing-requires c κs = search needs
+nothing-requires c κs = tt
 
 returns : tie.Need-returns
 unfolding syncTimerEnds

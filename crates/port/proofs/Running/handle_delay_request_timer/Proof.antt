@@ -7,16 +7,16 @@ use Rattle.port.proofs.Running.handle_delay_request_timer.Statement.{st
 use Rattle.port.proofs.Running.handle_delay_request_timer.Tie as tie
 
 draw-out-requires : tie.Need-draw-out-requires
-draw-out-requires c κs = search needs
+draw-out-requires c κs = tt
 
 of-requires : tie.Need-of-requires
-of-requires c κs = search needs
+of-requires c κs = tt
 
 enum-told : tie.Need-enum-told
 enum-told c = search needs
 
 send-delay-request-requires : tie.Need-send-delay-request-requires
-send-delay-request-requires c κs = search needs
+send-delay-request-requires c κs = tt
 
 send-requires : tie.Need-send-requires
 unfolding ruleOf row3
@@ -29,7 +29,7 @@ enum-known-gate : tie.Need-enum-known-gate
 enum-known-gate c = search needs
 
 refused-requires : tie.Need-refused-requires
-refused-requires c κs = search needs
+refused-requires c κs = tt
 
 same-length : tie.Need-same-length
 same-length c = search needs

@@ -7,16 +7,16 @@ use Rattle.port.proofs.Running.handle_event_receive.Statement.{statemen
 use Rattle.port.proofs.Running.handle_event_receive.Tie as tie
 
 time-out-requires : tie.Need-time-out-requires
-time-out-requires c κs = search needs
+time-out-requires c κs = tt
 
 of-requires : tie.Need-of-requires
-of-requires c κs = search needs
+of-requires c κs = tt
 
 enum-told : tie.Need-enum-told
 enum-told c = search needs
 
 on-event-requires : tie.Need-on-event-requires
-on-event-requires c κs = search needs
+on-event-requires c κs = tt
 
 send-requires : tie.Need-send-requires
 unfolding ruleOf row3
@@ -29,7 +29,7 @@ enum-known-gate : tie.Need-enum-known-gate
 enum-known-gate c = search needs
 
 refused-requires : tie.Need-refused-requires
-refused-requires c κs = search needs
+refused-requires c κs = tt
 
 same-length : tie.Need-same-length
 same-length c = search needs

@@ -8,13 +8,13 @@ use Rattle.port.proofs.Running.handle_filter_update.Statement.{statemen
 use Rattle.port.proofs.Running.handle_filter_update.Tie as tie
 
 of-requires : tie.Need-of-requires
-of-requires c κs = search needs
+of-requires c κs = tt
 
 enum-told : tie.Need-enum-told
 enum-told c = search needs
 
 on-filter-requires : tie.Need-on-filter-requires
-on-filter-requires c κs = search needs
+on-filter-requires c κs = tt
 
 send-requires : tie.Need-send-requires
 unfolding ruleOf row3
@@ -27,7 +27,7 @@ enum-known-gate : tie.Need-enum-known-gate
 enum-known-gate c = search needs
 
 refused-requires : tie.Need-refused-requires
-refused-requires c κs = search needs
+refused-requires c κs = tt
 
 same-length : tie.Need-same-length
 same-length c = search needs

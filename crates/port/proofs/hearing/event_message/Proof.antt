@@ -7,43 +7,43 @@ enum-told : tie.Need-enum-told
 enum-told c = search needs
 
 handle-sync-requires : tie.Need-handle-sync-requires
-handle-sync-requires c κs = search needs
+handle-sync-requires c κs = tt
 
 enum-told-2 : tie.Need-enum-told-2
 enum-told-2 c = search needs
 
 handle-delay-req-requires : tie.Need-handle-delay-req-requires
-handle-delay-req-requires c κs = search needs
+handle-delay-req-requires c κs = tt
 
 enum-told-3 : tie.Need-enum-told-3
 enum-told-3 c = search needs
 
 handle-pdelay-req-requires : tie.Need-handle-pdelay-req-requires
-handle-pdelay-req-requires c κs = search needs
+handle-pdelay-req-requires c κs = tt
 
 enum-known-body : tie.Need-enum-known-body
 enum-known-body c = search needs
 
 handle-peer-delay-response-requires : tie.Need-handle-peer-delay-response-requires
-handle-peer-delay-response-requires c κs = search needs
+handle-peer-delay-response-requires c κs = tt
 
 enum-told-4 : tie.Need-enum-told-4
 enum-told-4 c = search needs
 
 handle-general-internal-requires : tie.Need-handle-general-internal-requires
-handle-general-internal-requires c κs = search needs
+handle-general-internal-requires c κs = tt
 
 enum-told-5 : tie.Need-enum-told-5
 enum-told-5 c = search needs
 
 handle-general-internal-requires-2 : tie.Need-handle-general-internal-requires-2
-handle-general-internal-requires-2 c κs = search needs
+handle-general-internal-requires-2 c κs = tt
 
 enum-told-6 : tie.Need-enum-told-6
 enum-told-6 c = search needs
 
 handle-general-internal-requires-3 : tie.Need-handle-general-internal-requires-3
-handle-general-internal-requires-3 c κs = search needs
+handle-general-internal-requires-3 c κs = tt
 
 returns : tie.Need-returns
 unfolding onEvent onGeneral

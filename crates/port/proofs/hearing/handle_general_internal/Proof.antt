@@ -7,44 +7,44 @@ enum-told : tie.Need-enum-told
 enum-told c = search needs
 
 nothing-requires : tie.Need-nothing-requires
-nothing-requires c κs = search needs
+nothing-requires c κs = tt
 
 enum-told-2 : tie.Need-enum-told-2
 enum-told-2 c = search needs
 
 nothing-requires-2 : tie.Need-nothing-requires-2
-nothing-requires-2 c κs = search needs
+nothing-requires-2 c κs = tt
 
 enum-told-3 : tie.Need-enum-told-3
 enum-told-3 c = search needs
 
 nothing-requires-3 : tie.Need-nothing-requires-3
-nothing-requires-3 c κs = search needs
+nothing-requires-3 c κs = tt
 
 enum-told-4 : tie.Need-enum-told-4
 enum-told-4 c = search needs
 
 nothing-requires-4 : tie.Need-nothing-requires-4
-nothing-requires-4 c κs = search needs
+nothing-requires-4 c κs = tt
 
 enum-told-5 : tie.Need-enum-told-5
 enum-told-5 c = search needs
 
 handle-follow-up-requires : tie.Need-handle-follow-up-requires
-handle-follow-up-requires c κs = search needs
+handle-follow-up-requires c κs = tt
 
 enum-known-body : tie.Need-enum-known-body
 enum-known-body c = search needs
 
 handle-delay-resp-requires : tie.Need-handle-delay-resp-requires
-handle-delay-resp-requires c κs = search needs
+handle-delay-resp-requires c κs = tt
 
 enum-known-body-2 : tie.Need-enum-known-body-2
 enum-known-body-2 c = search needs
 
 handle-peer-delay-response-follow-up-requires :
     tie.Need-handle-peer-delay-response-follow-up-requires
-handle-peer-delay-response-follow-up-requires c κs = search needs
+handle-peer-delay-response-follow-up-requires c κs = tt
 
 returns : tie.Need-returns
 unfolding onGeneral

@@ -3,7 +3,7 @@ use Rattle.port.proofs.hearing.is_ours.Statement.{statement}
 use Rattle.port.proofs.hearing.is_ours.Tie as tie
 
 sdo-id-requires : tie.Need-sdo-id-requires
-sdo-id-requires c κs = search needs
+sdo-id-requires c κs = tt
 
 returns : tie.Need-returns
 returns c = simp (c .before .before .before .sdo-id .ensures)

@@ -6,19 +6,19 @@ use Rattle.port.proofs.hearing.on_general.Statement.{statement}
 use Rattle.port.proofs.hearing.on_general.Tie as tie
 
 parse-and-filter-requires : tie.Need-parse-and-filter-requires
-parse-and-filter-requires c κs = search needs
+parse-and-filter-requires c κs = tt
 
 enum-known-heard : tie.Need-enum-known-heard
 enum-known-heard c = search needs
 
 handle-general-internal-requires : tie.Need-handle-general-internal-requires
-handle-general-internal-requires c κs = search needs
+handle-general-internal-requires c κs = tt
 
 enum-known-heard-2 : tie.Need-enum-known-heard-2
 enum-known-heard-2 c = search needs
 
 refused-requires : tie.Need-refused-requires
-refused-requires c κs = search needs
+refused-requires c κs = tt
 
 returns : tie.Need-returns
 unfolding ruleOf

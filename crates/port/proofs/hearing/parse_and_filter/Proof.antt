@@ -4,25 +4,25 @@ use Rattle.port.proofs.hearing.parse_and_filter.Statement.{statement}
 use Rattle.port.proofs.hearing.parse_and_filter.Tie as tie
 
 read-requires : tie.Need-read-requires
-read-requires c κs = search needs
+read-requires c κs = tt
 
 enum-known-reading : tie.Need-enum-known-reading
 enum-known-reading c = search needs
 
 is-ours-requires : tie.Need-is-ours-requires
-is-ours-requires c κs = search needs
+is-ours-requires c κs = tt
 
 if-ours-requires : tie.Need-if-ours-requires
-if-ours-requires c κs = search needs
+if-ours-requires c κs = tt
 
 enum-known-reading-2 : tie.Need-enum-known-reading-2
 enum-known-reading-2 c = search needs
 
 is-ours-requires-2 : tie.Need-is-ours-requires-2
-is-ours-requires-2 c κs = search needs
+is-ours-requires-2 c κs = tt
 
 if-ours-requires-2 : tie.Need-if-ours-requires-2
-if-ours-requires-2 c κs = search needs
+if-ours-requires-2 c κs = tt
 
 enum-told : tie.Need-enum-told
 enum-told c = search needs

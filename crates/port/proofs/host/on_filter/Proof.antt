@@ -4,19 +4,19 @@ use Rattle.port.proofs.host.on_filter.Statement.{statement}
 use Rattle.port.proofs.host.on_filter.Tie as tie
 
 with-mean-requires : tie.Need-with-mean-requires
-with-mean-requires c κs = search needs
+with-mean-requires c κs = tt
 
 enum-told : tie.Need-enum-told
 enum-told c = search needs
 
 nothing-requires : tie.Need-nothing-requires
-nothing-requires c κs = search needs
+nothing-requires c κs = tt
 
 enum-known-next : tie.Need-enum-known-next
 enum-known-next c = search needs
 
 timed-requires : tie.Need-timed-requires
-timed-requires c κs = search needs
+timed-requires c κs = tt
 
 returns : tie.Need-returns
 unfolding filtered

@@ -4,19 +4,19 @@ use Rattle.port.proofs.host.on_state.Statement.{statement}
 use Rattle.port.proofs.host.on_state.Tie as tie
 
 state-of-requires : tie.Need-state-of-requires
-state-of-requires c κs = search needs
+state-of-requires c κs = tt
 
 number-requires : tie.Need-number-requires
-number-requires c κs = search needs
+number-requires c κs = tt
 
 number-requires-2 : tie.Need-number-requires-2
-number-requires-2 c κs = search needs
+number-requires-2 c κs = tt
 
 with-state-requires : tie.Need-with-state-requires
-with-state-requires c κs = search needs
+with-state-requires c κs = tt
 
 changed-requires : tie.Need-changed-requires
-changed-requires c κs = search needs
+changed-requires c κs = tt
 
 returns : tie.Need-returns
 unfolding stateSet

@@ -18,7 +18,7 @@ enum-known-new : tie.Need-enum-known-new
 enum-known-new c = search needs
 
 new-requires : tie.Need-new-requires
-new-requires c κs = search needs
+new-requires c κs = tt
 
 returns : tie.Need-returns
 returns c = search needs

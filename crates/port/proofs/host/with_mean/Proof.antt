@@ -9,7 +9,7 @@ enum-known-mean : tie.Need-enum-known-mean
 enum-known-mean c = search needs
 
 with-mean-requires : tie.Need-with-mean-requires
-with-mean-requires c κs = search needs
+with-mean-requires c κs = tt
 
 returns : tie.Need-returns
 returns c = search needs

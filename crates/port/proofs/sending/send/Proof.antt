@@ -11,13 +11,13 @@ enum-known-message : tie.Need-enum-known-message
 enum-known-message c = search needs
 
 write-requires : tie.Need-write-requires
-write-requires c κs = search needs
+write-requires c κs = tt
 
 enum-known-written : tie.Need-enum-known-written
 enum-known-written c = search needs
 
 with-length-requires : tie.Need-with-length-requires
-with-length-requires c κs = search needs
+with-length-requires c κs = tt
 
 enum-told-2 : tie.Need-enum-told-2
 enum-told-2 c = search needs

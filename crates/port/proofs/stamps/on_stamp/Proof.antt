@@ -9,25 +9,25 @@ enum-known-context : tie.Need-enum-known-context
 enum-known-context c = search needs
 
 handle-sync-timestamp-requires : tie.Need-handle-sync-timestamp-requires
-handle-sync-timestamp-requires c κs = search needs
+handle-sync-timestamp-requires c κs = tt
 
 enum-known-context-2 : tie.Need-enum-known-context-2
 enum-known-context-2 c = search needs
 
 handle-delay-timestamp-requires : tie.Need-handle-delay-timestamp-requires
-handle-delay-timestamp-requires c κs = search needs
+handle-delay-timestamp-requires c κs = tt
 
 enum-known-context-3 : tie.Need-enum-known-context-3
 enum-known-context-3 c = search needs
 
 handle-pdelay-timestamp-requires : tie.Need-handle-pdelay-timestamp-requires
-handle-pdelay-timestamp-requires c κs = search needs
+handle-pdelay-timestamp-requires c κs = tt
 
 enum-known-context-4 : tie.Need-enum-known-context-4
 enum-known-context-4 c = search needs
 
 handle-pdelay-response-timestamp-requires : tie.Need-handle-pdelay-response-timestamp-requires
-handle-pdelay-response-timestamp-requires c κs = search needs
+handle-pdelay-response-timestamp-requires c κs = tt
 
 returns : tie.Need-returns
 returns c =

@@ -6,28 +6,28 @@ use Rattle.slave.proofs.Measuring.handle_delay_resp.Statement.{statemen
 use Rattle.slave.proofs.Measuring.handle_delay_resp.Tie as tie
 
 to-us-requires : tie.Need-to-us-requires
-to-us-requires c κs = search needs
+to-us-requires c κs = tt
 
 from-master-requires : tie.Need-from-master-requires
-from-master-requires c κs = search needs
+from-master-requires c κs = tt
 
 enum-told : tie.Need-enum-told
 enum-told c = search needs
 
 nothing-requires : tie.Need-nothing-requires
-nothing-requires c κs = search needs
+nothing-requires c κs = tt
 
 enum-known-slave : tie.Need-enum-known-slave
 enum-known-slave c = search needs
 
 delay-answered-requires : tie.Need-delay-answered-requires
-delay-answered-requires c κs = search needs
+delay-answered-requires c κs = tt
 
 keep-delay-requires : tie.Need-keep-delay-requires
-keep-delay-requires c κs = search needs
+keep-delay-requires c κs = tt
 
 nothing-requires-2 : tie.Need-nothing-requires-2
-nothing-requires-2 c κs = search needs
+nothing-requires-2 c κs = tt
 
 returns : tie.Need-returns
 returns c = c .nothing .ensures ∙ ap (handledOf _) (sym (delay-unheard _ _ _ _ (sym (c .before .before .before .before .before .to-us .ensures) ∙ c .before .before .before .before .if1 .taken) (sym (c .before .before .before .from-master .ensures) ∙ c .before .enum-told .given .1)))

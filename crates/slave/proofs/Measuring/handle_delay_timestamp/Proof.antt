@@ -6,22 +6,22 @@ use Rattle.slave.proofs.Measuring.handle_delay_timestamp.Statement.{sta
 use Rattle.slave.proofs.Measuring.handle_delay_timestamp.Tie as tie
 
 as-slave-requires : tie.Need-as-slave-requires
-as-slave-requires c κs = search needs
+as-slave-requires c κs = tt
 
 enum-told : tie.Need-enum-told
 enum-told c = search needs
 
 nothing-requires : tie.Need-nothing-requires
-nothing-requires c κs = search needs
+nothing-requires c κs = tt
 
 enum-known-slave : tie.Need-enum-known-slave
 enum-known-slave c = search needs
 
 delay-stamped-requires : tie.Need-delay-stamped-requires
-delay-stamped-requires c κs = search needs
+delay-stamped-requires c κs = tt
 
 keep-delay-requires : tie.Need-keep-delay-requires
-keep-delay-requires c κs = search needs
+keep-delay-requires c κs = tt
 
 returns : tie.Need-returns
 returns c = c .nothing .ensures ∙ ap (handledOf _) (sym (delay-stamp-nobody _ _ _ (sym (c .before .before .before .as-slave .ensures) ∙ c .before .enum-told .given .1)))

@@ -6,34 +6,34 @@ use Rattle.slave.proofs.Measuring.handle_follow_up.Statement.{statement
 use Rattle.slave.proofs.Measuring.handle_follow_up.Tie as tie
 
 from-master-requires : tie.Need-from-master-requires
-from-master-requires c κs = search needs
+from-master-requires c κs = tt
 
 enum-told : tie.Need-enum-told
 enum-told c = search needs
 
 nothing-requires : tie.Need-nothing-requires
-nothing-requires c κs = search needs
+nothing-requires c κs = tt
 
 enum-known-slave : tie.Need-enum-known-slave
 enum-known-slave c = search needs
 
 plus-correction-requires : tie.Need-plus-correction-requires
-plus-correction-requires c κs = search needs
+plus-correction-requires c κs = tt
 
 enum-known-sum : tie.Need-enum-known-sum
 enum-known-sum c = search needs
 
 followed-up-requires : tie.Need-followed-up-requires
-followed-up-requires c κs = search needs
+followed-up-requires c κs = tt
 
 keep-sync-requires : tie.Need-keep-sync-requires
-keep-sync-requires c κs = search needs
+keep-sync-requires c κs = tt
 
 enum-told-2 : tie.Need-enum-told-2
 enum-told-2 c = search needs
 
 refused-requires : tie.Need-refused-requires
-refused-requires c κs = search needs
+refused-requires c κs = tt
 
 returns : tie.Need-returns
 returns c = c .nothing .ensures ∙ ap (handledOf _) (sym (follow-unheard _ _ _ (sym (c .before .before .before .from-master .ensures) ∙ c .before .enum-told .given .1)))

@@ -6,10 +6,10 @@ use Rattle.slave.proofs.Measuring.handle_pdelay_timestamp.Statement.{st
 use Rattle.slave.proofs.Measuring.handle_pdelay_timestamp.Tie as tie
 
 peer-stamped-requires : tie.Need-peer-stamped-requires
-peer-stamped-requires c κs = search needs
+peer-stamped-requires c κs = tt
 
 keep-peer-requires : tie.Need-keep-peer-requires
-keep-peer-requires c κs = search needs
+keep-peer-requires c κs = tt
 
 returns : tie.Need-returns
 returns c = simp (c .keep-peer .ensures, c .before .peer-stamped .ensures) (ap (handledOf _) (sym (peer-stamp-kept _ _ _)))

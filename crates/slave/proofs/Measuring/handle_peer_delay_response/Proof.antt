@@ -7,31 +7,31 @@ use Rattle.slave.proofs.Measuring.handle_peer_delay_response.Statement.
 use Rattle.slave.proofs.Measuring.handle_peer_delay_response.Tie as tie
 
 peer-guard-requires : tie.Need-peer-guard-requires
-peer-guard-requires c κs = search needs
+peer-guard-requires c κs = tt
 
 enum-told : tie.Need-enum-told
 enum-told c = search needs
 
 nothing-requires : tie.Need-nothing-requires
-nothing-requires c κs = search needs
+nothing-requires c κs = tt
 
 enum-told-2 : tie.Need-enum-told-2
 enum-told-2 c = search needs
 
 with-state-requires : tie.Need-with-state-requires
-with-state-requires c κs = search needs
+with-state-requires c κs = tt
 
 changed-requires : tie.Need-changed-requires
-changed-requires c κs = search needs
+changed-requires c κs = tt
 
 enum-told-3 : tie.Need-enum-told-3
 enum-told-3 c = search needs
 
 peer-responded-requires : tie.Need-peer-responded-requires
-peer-responded-requires c κs = search needs
+peer-responded-requires c κs = tt
 
 keep-peer-requires : tie.Need-keep-peer-requires
-keep-peer-requires c κs = search needs
+keep-peer-requires c κs = tt
 
 returns : tie.Need-returns
 unfolding pDelayResp

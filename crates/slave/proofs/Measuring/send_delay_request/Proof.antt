@@ -7,13 +7,13 @@ enum-told : tie.Need-enum-told
 enum-told c = search needs
 
 send-e2e-delay-request-requires : tie.Need-send-e2e-delay-request-requires
-send-e2e-delay-request-requires c κs = search needs
+send-e2e-delay-request-requires c κs = tt
 
 enum-told-2 : tie.Need-enum-told-2
 enum-told-2 c = search needs
 
 send-p2p-delay-request-requires : tie.Need-send-p2p-delay-request-requires
-send-p2p-delay-request-requires c κs = search needs
+send-p2p-delay-request-requires c κs = tt
 
 returns : tie.Need-returns
 unfolding delayTimerEnds

@@ -6,37 +6,37 @@ use Rattle.slave.proofs.Measuring.send_e2e_delay_request.Statement.{sta
 use Rattle.slave.proofs.Measuring.send_e2e_delay_request.Tie as tie
 
 as-slave-requires : tie.Need-as-slave-requires
-as-slave-requires c κs = search needs
+as-slave-requires c κs = tt
 
 enum-told : tie.Need-enum-told
 enum-told c = search needs
 
 nothing-requires : tie.Need-nothing-requires
-nothing-requires c κs = search needs
+nothing-requires c κs = tt
 
 enum-known-slave : tie.Need-enum-known-slave
 enum-known-slave c = search needs
 
 delay-timer-requires : tie.Need-delay-timer-requires
-delay-timer-requires c κs = search needs
+delay-timer-requires c κs = tt
 
 enum-known-timer : tie.Need-enum-known-timer
 enum-known-timer c = search needs
 
 delay-req-sent-requires : tie.Need-delay-req-sent-requires
-delay-req-sent-requires c κs = search needs
+delay-req-sent-requires c κs = tt
 
 enum-told-2 : tie.Need-enum-told-2
 enum-told-2 c = search needs
 
 refused-requires : tie.Need-refused-requires
-refused-requires c κs = search needs
+refused-requires c κs = tt
 
 enum-told-3 : tie.Need-enum-told-3
 enum-told-3 c = search needs
 
 refused-requires-2 : tie.Need-refused-requires-2
-refused-requires-2 c κs = search needs
+refused-requires-2 c κs = tt
 
 returns : tie.Need-returns
 returns c = c .nothing .ensures ∙ ap (handledOf _) (sym (request-nobody _ _ (sym (c .before .before .before .as-slave .ensures) ∙ c .before .enum-told .given .1)))

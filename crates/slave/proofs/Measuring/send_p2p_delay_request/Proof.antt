@@ -4,25 +4,25 @@ use Rattle.slave.proofs.Measuring.send_p2p_delay_request.Statement.{sta
 use Rattle.slave.proofs.Measuring.send_p2p_delay_request.Tie as tie
 
 delay-timer-requires : tie.Need-delay-timer-requires
-delay-timer-requires c κs = search needs
+delay-timer-requires c κs = tt
 
 enum-known-timer : tie.Need-enum-known-timer
 enum-known-timer c = search needs
 
 pdelay-req-sent-requires : tie.Need-pdelay-req-sent-requires
-pdelay-req-sent-requires c κs = search needs
+pdelay-req-sent-requires c κs = tt
 
 enum-told : tie.Need-enum-told
 enum-told c = search needs
 
 refused-requires : tie.Need-refused-requires
-refused-requires c κs = search needs
+refused-requires c κs = tt
 
 enum-told-2 : tie.Need-enum-told-2
 enum-told-2 c = search needs
 
 refused-requires-2 : tie.Need-refused-requires-2
-refused-requires-2 c κs = search needs
+refused-requires-2 c κs = tt
 
 returns : tie.Need-returns
 returns c = simp (c .pdelay-req-sent .ensures, sym (c .before .before .before .before .delay-timer .ensures) ∙ c .before .before .timer .given .1)

@@ -6,55 +6,55 @@ use Rattle.slave.proofs.extract.extract_measurement.Statement.{statemen
 use Rattle.slave.proofs.extract.extract_measurement.Tie as tie
 
 peer-times-requires : tie.Need-peer-times-requires
-peer-times-requires c κs = search needs
+peer-times-requires c κs = tt
 
 enum-known-times : tie.Need-enum-known-times
 enum-known-times c = search needs
 
 measure-peer-requires : tie.Need-measure-peer-requires
-measure-peer-requires c κs = search needs
+measure-peer-requires c κs = tt
 
 enum-told : tie.Need-enum-told
 enum-told c = search needs
 
 as-slave-requires : tie.Need-as-slave-requires
-as-slave-requires c κs = search needs
+as-slave-requires c κs = tt
 
 enum-told-2 : tie.Need-enum-told-2
 enum-told-2 c = search needs
 
 nothing-requires : tie.Need-nothing-requires
-nothing-requires c κs = search needs
+nothing-requires c κs = tt
 
 enum-known-slave : tie.Need-enum-known-slave
 enum-known-slave c = search needs
 
 pair-requires : tie.Need-pair-requires
-pair-requires c κs = search needs
+pair-requires c κs = tt
 
 enum-known-synced : tie.Need-enum-known-synced
 enum-known-synced c = search needs
 
 measure-sync-requires : tie.Need-measure-sync-requires
-measure-sync-requires c κs = search needs
+measure-sync-requires c κs = tt
 
 enum-told-3 : tie.Need-enum-told-3
 enum-told-3 c = search needs
 
 pair-requires-2 : tie.Need-pair-requires-2
-pair-requires-2 c κs = search needs
+pair-requires-2 c κs = tt
 
 enum-known-delayed : tie.Need-enum-known-delayed
 enum-known-delayed c = search needs
 
 measure-delay-requires : tie.Need-measure-delay-requires
-measure-delay-requires c κs = search needs
+measure-delay-requires c κs = tt
 
 enum-told-4 : tie.Need-enum-told-4
 enum-told-4 c = search needs
 
 nothing-requires-2 : tie.Need-nothing-requires-2
-nothing-requires-2 c κs = search needs
+nothing-requires-2 c κs = tt
 
 returns : tie.Need-returns
 returns c = c .measure-peer .ensures ∙ ap (handledOf _) (sym (settle-peer _ _ _ _ _ _ _ (sym (c .before .before .before .before .peer-times .ensures) ∙ c .before .before .times .given .1)))

@@ -5,7 +5,7 @@ use Rattle.slave.proofs.keeping.from_master.Statement.{statement}
 use Rattle.slave.proofs.keeping.from_master.Tie as tie
 
 as-slave-requires : tie.Need-as-slave-requires
-as-slave-requires c κs = search needs
+as-slave-requires c κs = tt
 
 enum-told : tie.Need-enum-told
 enum-told c = search needs
@@ -14,7 +14,7 @@ enum-known-slave : tie.Need-enum-known-slave
 enum-known-slave c = search needs
 
 same-identity-requires : tie.Need-same-identity-requires
-same-identity-requires c κs = search needs
+same-identity-requires c κs = tt
 
 returns : tie.Need-returns
 returns c = sym (hearer-none _ _ (sym (c .before .before .as-slave .ensures) ∙ c .enum-told .given .1))

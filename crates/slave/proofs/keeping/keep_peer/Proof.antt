@@ -7,22 +7,22 @@ enum-told : tie.Need-enum-told
 enum-told c = search needs
 
 nothing-requires : tie.Need-nothing-requires
-nothing-requires c κs = search needs
+nothing-requires c κs = tt
 
 enum-known-change : tie.Need-enum-known-change
 enum-known-change c = search needs
 
 with-peer-requires : tie.Need-with-peer-requires
-with-peer-requires c κs = search needs
+with-peer-requires c κs = tt
 
 extract-measurement-requires : tie.Need-extract-measurement-requires
-extract-measurement-requires c κs = search needs
+extract-measurement-requires c κs = tt
 
 enum-known-change-2 : tie.Need-enum-known-change-2
 enum-known-change-2 c = search needs
 
 refused-requires : tie.Need-refused-requires
-refused-requires c κs = search needs
+refused-requires c κs = tt
 
 returns : tie.Need-returns
 unfolding keptPeer

@@ -5,10 +5,10 @@ use Rattle.slave.proofs.keeping.peer_guard.Statement.{statement}
 use Rattle.slave.proofs.keeping.peer_guard.Tie as tie
 
 to-us-requires : tie.Need-to-us-requires
-to-us-requires c κs = search needs
+to-us-requires c κs = tt
 
 second-responder-requires : tie.Need-second-responder-requires
-second-responder-requires c κs = search needs
+second-responder-requires c κs = tt
 
 returns : tie.Need-returns
 unfolding guardOf

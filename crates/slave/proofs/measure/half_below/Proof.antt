@@ -11,13 +11,13 @@ enum-known-last : tie.Need-enum-known-last
 enum-known-last c = search needs
 
 minus-requires : tie.Need-minus-requires
-minus-requires c κs = search needs
+minus-requires c κs = tt
 
 enum-known-twice : tie.Need-enum-known-twice
 enum-known-twice c = search needs
 
 half-requires : tie.Need-half-requires
-half-requires c κs = search needs
+half-requires c κs = tt
 
 enum-told-2 : tie.Need-enum-told-2
 enum-told-2 c = search needs

@@ -3,7 +3,7 @@ use Rattle.slave.proofs.measure.is_faulty.Statement.{statement}
 use Rattle.slave.proofs.measure.is_faulty.Tie as tie
 
 number-requires : tie.Need-number-requires
-number-requires c κs = search needs
+number-requires c κs = tt
 
 returns : tie.Need-returns
 returns c = simp (c .number .ensures)

@@ -11,7 +11,7 @@ enum-known-mean : tie.Need-enum-known-mean
 enum-known-mean c = search needs
 
 minus-requires : tie.Need-minus-requires
-minus-requires c κs = search needs
+minus-requires c κs = tt
 
 enum-known-less : tie.Need-enum-known-less
 enum-known-less c = search needs

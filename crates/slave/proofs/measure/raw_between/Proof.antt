@@ -6,13 +6,13 @@ use Rattle.slave.proofs.measure.raw_between.Statement.{statement}
 use Rattle.slave.proofs.measure.raw_between.Tie as tie
 
 minus-requires : tie.Need-minus-requires
-minus-requires c κs = search needs
+minus-requires c κs = tt
 
 enum-known-apart : tie.Need-enum-known-apart
 enum-known-apart c = search needs
 
 minus-requires-2 : tie.Need-minus-requires-2
-minus-requires-2 c κs = search needs
+minus-requires-2 c κs = tt
 
 enum-told : tie.Need-enum-told
 enum-told c = search needs

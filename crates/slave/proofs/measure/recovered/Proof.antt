@@ -4,7 +4,7 @@ use Rattle.slave.proofs.measure.recovered.Statement.{statement}
 use Rattle.slave.proofs.measure.recovered.Tie as tie
 
 is-faulty-requires : tie.Need-is-faulty-requires
-is-faulty-requires c κs = search needs
+is-faulty-requires c κs = tt
 
 returns : tie.Need-returns
 returns c = simp (sym (c .before .is-faulty .ensures) ∙ c .if1 .taken)

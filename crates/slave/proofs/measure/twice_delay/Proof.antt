@@ -6,19 +6,19 @@ use Rattle.slave.proofs.measure.twice_delay.Statement.{statement}
 use Rattle.slave.proofs.measure.twice_delay.Tie as tie
 
 minus-requires : tie.Need-minus-requires
-minus-requires c κs = search needs
+minus-requires c κs = tt
 
 enum-known-turn : tie.Need-enum-known-turn
 enum-known-turn c = search needs
 
 minus-requires-2 : tie.Need-minus-requires-2
-minus-requires-2 c κs = search needs
+minus-requires-2 c κs = tt
 
 enum-known-stay : tie.Need-enum-known-stay
 enum-known-stay c = search needs
 
 minus-requires-3 : tie.Need-minus-requires-3
-minus-requires-3 c κs = search needs
+minus-requires-3 c κs = tt
 
 enum-told : tie.Need-enum-told
 enum-told c = search needs

@@ -25,7 +25,7 @@ unfolding gateOf
 returns c = (simp (lt-ltb (c .before .args .room) 64 (omega (arith, c .if1 .taken))), bounds (c .before))
 
 is-unfit-requires : tie.Need-is-unfit-requires
-is-unfit-requires c κs = search needs
+is-unfit-requires c κs = tt
 
 returns-2 : tie.Need-returns-2
 unfolding gateOf
