@@ -3,13 +3,12 @@
 ghost use Rattle.rules.specs.Events.{event, general, stamp, syncTimer, delayTimer, filterAnswer, setState};
 ghost use Rattle.port.specs.Entries.{Answers};
 
-mod gates;
-mod hearing;
-mod host;
 mod sending;
-mod stamps;
 
-use crate::gates::Gate;
+use dispatch::gates::Gate;
+use dispatch::hearing;
+use dispatch::host;
+use dispatch::stamps;
 use master::Answering;
 use record::Answer;
 use record::Context;

@@ -1,4 +1,3 @@
-use borrow.Author.Needs.{needs}
 use Rattle.master.proofs.is_master.Statement.{statement}
 use Rattle.master.proofs.is_master.Tie as tie
 

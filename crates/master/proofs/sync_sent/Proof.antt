@@ -1,4 +1,3 @@
-use borrow.Author.Needs.{needs}
 use Rattle.master.proofs.sync_sent.Statement.{statement}
 use Rattle.master.proofs.sync_sent.Tie as tie
 

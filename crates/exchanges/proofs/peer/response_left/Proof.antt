@@ -1,5 +1,4 @@
 use mathlib.Core.Path.{sym, _∙_}
-use borrow.Author.Needs.{needs}
 use Rattle.exchanges.proofs.peer.response_left.Statement.{statement}
 use Rattle.exchanges.proofs.peer.response_left.Tie as tie
 

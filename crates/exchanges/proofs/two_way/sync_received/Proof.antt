@@ -1,5 +1,4 @@
 use mathlib.Core.Path.{sym, _∙_}
-use borrow.Author.Needs.{needs}
 use Rattle.exchanges.proofs.two_way.sync_received.Statement.{statement}
 use Rattle.exchanges.proofs.two_way.sync_received.Tie as tie
 

@@ -1,6 +1,5 @@
 use Rattle.record.specs.Answers.{answerOf}
 use Rattle.handling.specs.Handling.{handedOn}
-use borrow.Author.Needs.{needs}
 use Rattle.handling.proofs.Handled.changed.Statement.{statement}
 use Rattle.handling.proofs.Handled.changed.Tie as tie
 

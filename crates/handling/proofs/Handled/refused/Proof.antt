@@ -1,5 +1,4 @@
 use Rattle.handling.specs.Handling.{turnedDown}
-use borrow.Author.Needs.{needs}
 use Rattle.handling.proofs.Handled.refused.Statement.{statement}
 use Rattle.handling.proofs.Handled.refused.Tie as tie
 

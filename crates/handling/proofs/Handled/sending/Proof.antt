@@ -1,6 +1,5 @@
 use Rattle.record.specs.AnswersLaws.{one-action}
 use Rattle.handling.specs.Handling.{handedOn}
-use borrow.Author.Needs.{needs}
 use Rattle.handling.proofs.Handled.sending.Statement.{statement}
 use Rattle.handling.proofs.Handled.sending.Tie as tie
 

@@ -1,6 +1,5 @@
 use Rattle.record.specs.AnswersLaws.{two-actions}
 use Rattle.handling.specs.Handling.{handedOn}
-use borrow.Author.Needs.{needs}
 use Rattle.handling.proofs.Handled.sending_timed.Statement.{statement}
 use Rattle.handling.proofs.Handled.sending_timed.Tie as tie
 

@@ -1,6 +1,5 @@
 use mathlib.Core.Path.{sym, _∙_}
 use Rattle.rules.specs.Rules.{delayReq}
-use borrow.Author.Needs.{needs}
 use Rattle.master.proofs.Answering.handle_delay_req.Statement.{statement}
 use Rattle.master.proofs.Answering.handle_delay_req.Tie as tie
 

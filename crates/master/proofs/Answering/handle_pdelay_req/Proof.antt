@@ -1,5 +1,4 @@
 use Rattle.rules.specs.Rules.{pDelayReq}
-use borrow.Author.Needs.{needs}
 use Rattle.master.proofs.Answering.handle_pdelay_req.Statement.{statement}
 use Rattle.master.proofs.Answering.handle_pdelay_req.Tie as tie
 

@@ -1,5 +1,4 @@
 use Rattle.rules.specs.Rules.{stamped}
-use borrow.Author.Needs.{needs}
 use Rattle.master.proofs.Answering.handle_pdelay_response_timestamp.Statement.{statement}
 use Rattle.master.proofs.Answering.handle_pdelay_response_timestamp.Tie as tie
 

@@ -1,6 +1,5 @@
 use mathlib.Core.Path.{sym, _∙_}
 use Rattle.rules.specs.Rules.{stamped}
-use borrow.Author.Needs.{needs}
 use Rattle.master.proofs.Answering.handle_sync_timestamp.Statement.{statement}
 use Rattle.master.proofs.Answering.handle_sync_timestamp.Tie as tie
 

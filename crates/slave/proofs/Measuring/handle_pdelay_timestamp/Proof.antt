@@ -1,7 +1,6 @@
 use mathlib.Core.Path.{ap, sym}
 use Rattle.handling.specs.Handling.{handledOf}
 use Rattle.slave.proofs.HandleLaws.{peer-stamp-kept}
-use borrow.Author.Needs.{needs}
 use Rattle.slave.proofs.Measuring.handle_pdelay_timestamp.Statement.{statement}
 use Rattle.slave.proofs.Measuring.handle_pdelay_timestamp.Tie as tie
 

@@ -1,4 +1,3 @@
-use borrow.Author.Needs.{needs}
 use Rattle.slave.proofs.measure.is_faulty.Statement.{statement}
 use Rattle.slave.proofs.measure.is_faulty.Tie as tie
 

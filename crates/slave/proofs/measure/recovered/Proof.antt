@@ -1,5 +1,4 @@
 use mathlib.Core.Path.{sym, _∙_}
-use borrow.Author.Needs.{needs}
 use Rattle.slave.proofs.measure.recovered.Statement.{statement}
 use Rattle.slave.proofs.measure.recovered.Tie as tie
 

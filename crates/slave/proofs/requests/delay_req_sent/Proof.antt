@@ -1,4 +1,3 @@
-use borrow.Author.Needs.{needs}
 use Rattle.slave.proofs.requests.delay_req_sent.Statement.{statement}
 use Rattle.slave.proofs.requests.delay_req_sent.Tie as tie
 
