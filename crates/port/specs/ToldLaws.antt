@@ -34,7 +34,7 @@ actions-back (a ∷ []) h = refl
 actions-back (a ∷ b ∷ []) h = refl
 actions-back (a ∷ b ∷ c ∷ rest) h = absurd (omega (arith, h))
 
-pub record Told (r : Result) (a : Answer) : Type 0 where
+pub record TellsResult (r : Result) (a : Answer) : Type 0 where
   pub outcome : a .outcome ≡ r .outcome
   pub port : a .port ≡ r .port
   pub measurement : a .measurement ≡ r .measurement
@@ -43,9 +43,9 @@ pub record Told (r : Result) (a : Answer) : Type 0 where
   pub actions : firstActions (a .count) (a .actions) ≡ r .actions
   pub reset : a .reset ≡ r .reset
 
-pub told : (p : Port) (room : ℕ) (e : Event) → Told (step p room e) (answerFor (step p room e))
+pub answer-tells : (p : Port) (room : ℕ) (e : Event) → TellsResult (step p room e) (answerFor (step p room e))
 unfolding answerFor answerOf
-told p room e =
+answer-tells p room e =
     record {
       outcome = refl;
       port = refl;

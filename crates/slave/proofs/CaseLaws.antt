@@ -14,7 +14,7 @@ use Rattle.exchanges.specs.Changing.{exchangeChange, peerChange}
 use Rattle.slave.specs.declared.Pair.{Pair}
 use Rattle.slave.specs.declared.PeerTimes.{PeerTimes}
 use Rattle.slave.specs.declared.MaybeSlave.{MaybeSlave}
-use Rattle.slave.specs.Taking.{pairOf, peerTimesOf, slaveIn, hearer, kept, keptPeer}
+use Rattle.slave.specs.Taking.{pairOf, peerTimesOf, slaveIn, hearer, keptExchange, keptPeer}
 
 module _ {A : Type 0} where
   -- ---- a Slave's part
@@ -105,8 +105,8 @@ heard-is p h m rule e =
 
 -- ---- what is kept
 
-pub kept-is : (p : Port) (store : Exchange → Port) (w : Worked (Change Exchange)) → kept p store (exchangeChange w) ≡ (w then keeping p store)
-unfolding kept
+pub kept-is : (p : Port) (store : Exchange → Port) (w : Worked (Change Exchange)) → keptExchange p store (exchangeChange w) ≡ (w then keeping p store)
+unfolding keptExchange
 kept-is p store (worked stays) = refl
 kept-is p store (worked (becomes x)) = refl
 kept-is p store (refused o) = refl

@@ -18,7 +18,7 @@ use Rattle.slave.specs.declared.Guard.{Guard}
 use Rattle.slave.specs.declared.Pair.{Pair}
 use Rattle.slave.specs.declared.PeerTimes.{PeerTimes}
 use Rattle.slave.specs.declared.MaybeSlave.{MaybeSlave}
-use Rattle.slave.specs.Taking.{pairOf, peerTimesOf, slaveIn, hearer, guardOf, kept, keptPeer}
+use Rattle.slave.specs.Taking.{pairOf, peerTimesOf, slaveIn, hearer, guardOf, keptExchange, keptPeer}
 use Rattle.slave.proofs.CaseLaws.{slave-is, pair-is, peer-times-are, heard-is, kept-is, kept-peer-is}
 
 -- ---- extraction
@@ -59,7 +59,7 @@ abbrev storeDelay : Port → SlaveState → Exchange → Port
 storeDelay p s x = withSlave p (withDelay s x)
 
 -- a sum in front of what is kept
-sum-kept : (p : Port) (store : Exchange → Port) (change : Time → Change Exchange) (a : TimeAnswer) (t : Time) → a ≡ TimeAnswer.Value t → (aTime a then λ u. keeping p store (change u)) ≡ kept p store (exchangeChange (worked (change t)))
+sum-kept : (p : Port) (store : Exchange → Port) (change : Time → Change Exchange) (a : TimeAnswer) (t : Time) → a ≡ TimeAnswer.Value t → (aTime a then λ u. keeping p store (change u)) ≡ keptExchange p store (exchangeChange (worked (change t)))
 sum-kept p store change a t e = ap (λ (x : TimeAnswer). aTime x then λ u. keeping p store (change u)) e ∙ sym (kept-is p store (worked (change t)))
 
 sum-out : (p : Port) (store : Exchange → Port) (change : Time → Change Exchange) (a : TimeAnswer) → a ≡ TimeAnswer.Out → (aTime a then λ u. keeping p store (change u)) ≡ refused Outcome.Range
@@ -82,7 +82,7 @@ module _ (p : Port) (h : Header) where
     unfolding sync lessCorrection
     sync-out s e f = heard-is p h (MaybeSlave.Some s) _ e ∙ sum-out p (storeSync p s) (λ t. synced h origin t (s .sync)) _ f
 
-    pub sync-kept : (s : SlaveState) (t : Time) → hearer p h ≡ MaybeSlave.Some s → timeOf (time at -ℤ correction (h .correction)) ≡ TimeAnswer.Value t → sync p h origin at ≡ kept p (storeSync p s) (exchangeChange (worked (synced h origin t (s .sync))))
+    pub sync-kept : (s : SlaveState) (t : Time) → hearer p h ≡ MaybeSlave.Some s → timeOf (time at -ℤ correction (h .correction)) ≡ TimeAnswer.Value t → sync p h origin at ≡ keptExchange p (storeSync p s) (exchangeChange (worked (synced h origin t (s .sync))))
     unfolding sync lessCorrection
     sync-kept s t e f = heard-is p h (MaybeSlave.Some s) _ e ∙ sum-kept p (storeSync p s) (λ u. synced h origin u (s .sync)) _ t f
 
@@ -95,7 +95,7 @@ module _ (p : Port) (h : Header) where
     unfolding followUp plusCorrection
     follow-out s e f = heard-is p h (MaybeSlave.Some s) _ e ∙ sum-out p (storeSync p s) (λ t. followedUp (h .id) t (s .sync)) _ f
 
-    pub follow-kept : (s : SlaveState) (t : Time) → hearer p h ≡ MaybeSlave.Some s → timeOf (time timestamp +ℤ correction (h .correction)) ≡ TimeAnswer.Value t → followUp p h timestamp ≡ kept p (storeSync p s) (exchangeChange (worked (followedUp (h .id) t (s .sync))))
+    pub follow-kept : (s : SlaveState) (t : Time) → hearer p h ≡ MaybeSlave.Some s → timeOf (time timestamp +ℤ correction (h .correction)) ≡ TimeAnswer.Value t → followUp p h timestamp ≡ keptExchange p (storeSync p s) (exchangeChange (worked (followedUp (h .id) t (s .sync))))
     unfolding followUp plusCorrection
     follow-kept s t e f = heard-is p h (MaybeSlave.Some s) _ e ∙ sum-kept p (storeSync p s) (λ u. followedUp (h .id) u (s .sync)) _ t f
 
@@ -110,7 +110,7 @@ module _ (p : Port) (h : Header) where
       unfolding delayResp
       delay-unheard e f = is-to-us p requester _ e ∙ heard-is p h MaybeSlave.None _ f
 
-      pub delay-kept : (s : SlaveState) → sameIdentity (p .config .identity) requester ≡ true → hearer p h ≡ MaybeSlave.Some s → delayResp p h requester timestamp ≡ kept p (storeDelay p s) (exchangeChange (delayAnswered (h .id) (lessCorrection timestamp h) (s .delay)))
+      pub delay-kept : (s : SlaveState) → sameIdentity (p .config .identity) requester ≡ true → hearer p h ≡ MaybeSlave.Some s → delayResp p h requester timestamp ≡ keptExchange p (storeDelay p s) (exchangeChange (delayAnswered (h .id) (lessCorrection timestamp h) (s .delay)))
       unfolding delayResp
       delay-kept s e f =
           is-to-us p requester _ e ∙ heard-is p h (MaybeSlave.Some s) _ f
@@ -149,7 +149,7 @@ module _ (p : Port) (id : ℕ) (t : Time) where
   unfolding stamped
   delay-stamp-nobody e = slave-is (p .state) MaybeSlave.None (nothing p) _ e
 
-  pub delay-stamp-kept : (s : SlaveState) → slaveIn (p .state) ≡ MaybeSlave.Some s → stamped p t (Context.DelayReq id) ≡ kept p (storeDelay p s) (exchangeChange (worked (delayStamped id t (s .delay))))
+  pub delay-stamp-kept : (s : SlaveState) → slaveIn (p .state) ≡ MaybeSlave.Some s → stamped p t (Context.DelayReq id) ≡ keptExchange p (storeDelay p s) (exchangeChange (worked (delayStamped id t (s .delay))))
   unfolding stamped
   delay-stamp-kept s e =
       slave-is (p .state) (MaybeSlave.Some s) (nothing p) _ e ∙ sym (kept-is p (storeDelay p s) (worked (delayStamped id t (s .delay))))

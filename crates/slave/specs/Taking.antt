@@ -52,10 +52,10 @@ aPart (PartAnswer.Refused o) = refused o
 
 -- ---- what is kept of a changed exchange: `keeping`, for the values of crate `exchanges`
 
-unfoldable pub kept : Port → (Exchange → Port) → ExchangeChange → Worked Done
-kept p store ExchangeChange.Stays = nothing p
-kept p store (ExchangeChange.Becomes x) = settle (store x)
-kept p store (ExchangeChange.Refused o) = refused o
+unfoldable pub keptExchange : Port → (Exchange → Port) → ExchangeChange → Worked Done
+keptExchange p store ExchangeChange.Stays = nothing p
+keptExchange p store (ExchangeChange.Becomes x) = settle (store x)
+keptExchange p store (ExchangeChange.Refused o) = refused o
 
 unfoldable pub keptPeer : Port → (PeerState → Port) → PeerChange → Worked Done
 keptPeer p store PeerChange.Stays = nothing p

@@ -12,7 +12,6 @@ use exchanges::peer;
 use exchanges::two_way;
 use handling::Handled;
 use record::Outcome;
-use record::PortState;
 use time::Time;
 use time::TimeAnswer;
 use wire::Header;
@@ -95,7 +94,7 @@ impl Measuring {
         let guard = keeping::peer_guard(port, header, requester);
         match guard {
             Guard::Foreign => Handled::nothing(port),
-            Guard::Second => Handled::changed(port.with_state(PortState::Faulty), true),
+            Guard::Second => keeping::becomes_faulty(port),
             Guard::Ours => {
                 let open = port.peer;
                 let change = peer::peer_responded(open, header, request_receive, recv_time);
@@ -116,7 +115,7 @@ impl Measuring {
         let guard = keeping::peer_guard(port, header, requester);
         match guard {
             Guard::Foreign => Handled::nothing(port),
-            Guard::Second => Handled::changed(port.with_state(PortState::Faulty), true),
+            Guard::Second => keeping::becomes_faulty(port),
             Guard::Ours => {
                 let open = port.peer;
                 let change = peer::peer_responded_later(open, header, response_origin);

@@ -3,8 +3,9 @@ ghost use mathlib.Core.Path.{_≡_};
 ghost use Rattle.rules.specs.Names.{Exchange};
 ghost use Rattle.record.specs.Record.{withSync, withDelay, withSlave, withPeer};
 ghost use Rattle.record.specs.Same.{sameIdentity};
-ghost use Rattle.handling.specs.Handling.{handledOf};
-ghost use Rattle.slave.specs.Taking.{hearer, guardOf, kept, keptPeer};
+ghost use Rattle.rules.specs.Rules.{becomesFaulty};
+ghost use Rattle.handling.specs.Handling.{handedOn, handledOf};
+ghost use Rattle.slave.specs.Taking.{hearer, guardOf, keptExchange, keptPeer};
 use crate::Guard;
 use crate::MaybeSlave;
 use crate::complete;
@@ -14,6 +15,7 @@ use exchanges::PeerChange;
 use exchanges::peer;
 use handling::Handled;
 use record::Port;
+use record::PortState;
 use record::SlaveState;
 use record::equality;
 use wire::Header;
@@ -62,8 +64,15 @@ pub(crate) fn peer_guard(port: Port, header: Header, requester: Identity) -> Gua
     }
 }
 
+// Two responders on one link are a fault.
+pub(crate) fn becomes_faulty(port: Port) -> Handled
+    ensures { λ r. ⌜ r ≡ handedOn (becomesFaulty port) ⌝ }
+{
+    Handled::changed(port.with_state(PortState::Faulty), true)
+}
+
 pub(crate) fn keep_sync(port: Port, s: SlaveState, change: ExchangeChange) -> Handled
-    ensures { λ r. ⌜ r ≡ handledOf port (kept port (λ (x : Exchange). withSlave port (withSync s x)) change) ⌝ }
+    ensures { λ r. ⌜ r ≡ handledOf port (keptExchange port (λ (x : Exchange). withSlave port (withSync s x)) change) ⌝ }
 {
     match change {
         ExchangeChange::Stays => Handled::nothing(port),
@@ -76,7 +85,7 @@ pub(crate) fn keep_sync(port: Port, s: SlaveState, change: ExchangeChange) -> Ha
 }
 
 pub(crate) fn keep_delay(port: Port, s: SlaveState, change: ExchangeChange) -> Handled
-    ensures { λ r. ⌜ r ≡ handledOf port (kept port (λ (x : Exchange). withSlave port (withDelay s x)) change) ⌝ }
+    ensures { λ r. ⌜ r ≡ handledOf port (keptExchange port (λ (x : Exchange). withSlave port (withDelay s x)) change) ⌝ }
 {
     match change {
         ExchangeChange::Stays => Handled::nothing(port),

@@ -20,11 +20,8 @@ nothing-requires c κs = tt
 enum-told-2 : tie.Need-enum-told-2
 enum-told-2 c = search needs
 
-with-state-requires : tie.Need-with-state-requires
-with-state-requires c κs = tt
-
-changed-requires : tie.Need-changed-requires
-changed-requires c κs = tt
+becomes-faulty-requires : tie.Need-becomes-faulty-requires
+becomes-faulty-requires c κs = tt
 
 enum-told-3 : tie.Need-enum-told-3
 enum-told-3 c = search needs
@@ -41,7 +38,7 @@ returns c = c .nothing .ensures ∙ ap (handledOf _) (sym (peer-foreign _ _ _ _ 
 
 returns-2 : tie.Need-returns-2
 unfolding pDelayRespFollowUp
-returns-2 c = simp (c .changed .ensures, c .before .with-state .ensures) (ap (handledOf _) (sym (peer-second _ _ _ _ (sym (c .before .before .before .before .peer-guard .ensures) ∙ c .before .before .enum-told2 .given .1))))
+returns-2 c = c .becomes-faulty .ensures ∙ ap (handledOf _) (sym (peer-second _ _ _ _ (sym (c .before .before .before .peer-guard .ensures) ∙ c .before .enum-told2 .given .1)))
 
 returns-3 : tie.Need-returns-3
 unfolding pDelayRespFollowUp
@@ -55,8 +52,7 @@ handle-peer-delay-response-follow-up-spec =
     enum-told
     nothing-requires
     enum-told-2
-    with-state-requires
-    changed-requires
+    becomes-faulty-requires
     enum-told-3
     peer-responded-later-requires
     keep-peer-requires

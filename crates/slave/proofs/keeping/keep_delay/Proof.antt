@@ -1,4 +1,4 @@
-use Rattle.slave.specs.Taking.{kept}
+use Rattle.slave.specs.Taking.{keptExchange}
 use borrow.Author.Needs.{needs}
 use Rattle.slave.proofs.keeping.keep_delay.Statement.{statement}
 use Rattle.slave.proofs.keeping.keep_delay.Tie as tie
@@ -28,15 +28,15 @@ refused-requires : tie.Need-refused-requires
 refused-requires c κs = tt
 
 returns : tie.Need-returns
-unfolding kept
+unfolding keptExchange
 returns c = simp (c .nothing .ensures, c .before .enum-told .given .1)
 
 returns-2 : tie.Need-returns-2
-unfolding kept
+unfolding keptExchange
 returns-2 c = simp (c .extract-measurement .ensures, c .before .with-slave .ensures, c .before .before .with-delay .ensures, c .before .before .before .before .change .given .1)
 
 returns-3 : tie.Need-returns-3
-unfolding kept
+unfolding keptExchange
 returns-3 c = simp (c .refused .ensures, c .before .before .change2 .given .1)
 
 pub keep-delay-spec : {M : Type 1} → statement M
