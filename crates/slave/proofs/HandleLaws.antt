@@ -10,7 +10,7 @@ use Rattle.rules.specs.Worked.{Worked, worked, refused, _then_, aTime, aTimer, 
 use Rattle.rules.specs.Events.{Done, nothing}
 use Rattle.rules.specs.Measuring.{settle, measureSync, measureDelay, measurePeer, complete}
 use Rattle.rules.specs.Exchanges.{Change, synced, followedUp, delayAnswered, delayStamped, peerStamped, secondResponder}
-use Rattle.rules.specs.Rules.{toUs, keeping, sync, followUp, delayResp, becomesFaulty, peerAnswer, stamped, delaySent, request}
+use Rattle.rules.specs.Rules.{fromMaster, toUs, keeping, sync, followUp, delayResp, becomesFaulty, peerAnswer, stamped, delaySent, request}
 use Rattle.record.specs.Record.{withSync, withDelay, withSlave, withPeer}
 use Rattle.record.specs.Same.{sameIdentity}
 use Rattle.exchanges.specs.Changing.{exchangeChange, peerChange}
@@ -58,12 +58,36 @@ storeSync p s x = withSlave p (withSync s x)
 abbrev storeDelay : Port → SlaveState → Exchange → Port
 storeDelay p s x = withSlave p (withDelay s x)
 
--- a sum in front of what is kept
-sum-kept : (p : Port) (store : Exchange → Port) (change : Time → Change Exchange) (a : TimeAnswer) (t : Time) → a ≡ TimeAnswer.Value t → (aTime a then λ u. keeping p store (change u)) ≡ keptExchange p store (exchangeChange (worked (change t)))
-sum-kept p store change a t e = ap (λ (x : TimeAnswer). aTime x then λ u. keeping p store (change u)) e ∙ sym (kept-is p store (worked (change t)))
+-- Sync and FollowUp: heard or not, then the sum, then the exchange
+pub record Hears (p : Port) (h : Header) (whole : Worked Done) (sum : TimeAnswer) (change : SlaveState → Time → Change Exchange) : Type 0 where
+  pub unheard : hearer p h ≡ MaybeSlave.None → whole ≡ nothing p
+  pub out : (s : SlaveState) → hearer p h ≡ MaybeSlave.Some s → sum ≡ TimeAnswer.Out → whole ≡ refused Outcome.Range
+  pub stored : (s : SlaveState) (t : Time) → hearer p h ≡ MaybeSlave.Some s → sum ≡ TimeAnswer.Value t → whole ≡ keptExchange p (storeSync p s) (exchangeChange (worked (change s t)))
 
-sum-out : (p : Port) (store : Exchange → Port) (change : Time → Change Exchange) (a : TimeAnswer) → a ≡ TimeAnswer.Out → (aTime a then λ u. keeping p store (change u)) ≡ refused Outcome.Range
-sum-out p store change a e = ap (λ (x : TimeAnswer). aTime x then λ u. keeping p store (change u)) e
+module _ (p : Port) (h : Header) where
+  module _ (sum : TimeAnswer) (change : SlaveState → Time → Change Exchange) where
+    abbrev rule : SlaveState → Worked Done
+    rule s = aTime sum then λ t. keeping p (storeSync p s) (change s t)
+
+    after-sum : (s : SlaveState) (a : TimeAnswer) → hearer p h ≡ MaybeSlave.Some s → sum ≡ a → fromMaster p h rule ≡ (aTime a then λ t. keeping p (storeSync p s) (change s t))
+    after-sum s a heard e =
+        heard-is p h (MaybeSlave.Some s) rule heard ∙ ap (λ (x : TimeAnswer). aTime x then λ t. keeping p (storeSync p s) (change s t)) e
+
+    hears : (whole : Worked Done) → whole ≡ fromMaster p h rule → Hears p h whole sum change
+    hears whole is =
+        record {
+          unheard = λ e. is ∙ heard-is p h MaybeSlave.None rule e;
+          out = λ s heard e. is ∙ after-sum s TimeAnswer.Out heard e;
+          stored = λ s t heard e. is ∙ after-sum s (TimeAnswer.Value t) heard e ∙ sym (kept-is p (storeSync p s) (worked (change s t)));
+        }
+
+  pub sync-hears : (origin at : Time) → Hears p h (sync p h origin at) (timeOf (time at -ℤ correction (h .correction))) (λ s t. synced h origin t (s .sync))
+  unfolding sync lessCorrection
+  sync-hears origin at = hears _ (λ s t. synced h origin t (s .sync)) (sync p h origin at) refl
+
+  pub follow-up-hears : (timestamp : Time) → Hears p h (followUp p h timestamp) (timeOf (time timestamp +ℤ correction (h .correction))) (λ s t. followedUp (h .id) t (s .sync))
+  unfolding followUp plusCorrection
+  follow-up-hears timestamp = hears _ (λ s t. followedUp (h .id) t (s .sync)) (followUp p h timestamp) refl
 
 module _ (p : Port) (requester : Identity) (rule : Worked Done) where
   is-to-us : sameIdentity (p .config .identity) requester ≡ true → toUs p requester rule ≡ rule
@@ -73,32 +97,7 @@ module _ (p : Port) (requester : Identity) (rule : Worked Done) where
   not-to-us e = ap (λ (t : Bool). cond t rule (nothing p)) e
 
 module _ (p : Port) (h : Header) where
-  module _ (origin at : Time) where
-    pub sync-unheard : hearer p h ≡ MaybeSlave.None → sync p h origin at ≡ nothing p
-    unfolding sync
-    sync-unheard e = heard-is p h MaybeSlave.None _ e
-
-    pub sync-out : (s : SlaveState) → hearer p h ≡ MaybeSlave.Some s → timeOf (time at -ℤ correction (h .correction)) ≡ TimeAnswer.Out → sync p h origin at ≡ refused Outcome.Range
-    unfolding sync lessCorrection
-    sync-out s e f = heard-is p h (MaybeSlave.Some s) _ e ∙ sum-out p (storeSync p s) (λ t. synced h origin t (s .sync)) _ f
-
-    pub sync-kept : (s : SlaveState) (t : Time) → hearer p h ≡ MaybeSlave.Some s → timeOf (time at -ℤ correction (h .correction)) ≡ TimeAnswer.Value t → sync p h origin at ≡ keptExchange p (storeSync p s) (exchangeChange (worked (synced h origin t (s .sync))))
-    unfolding sync lessCorrection
-    sync-kept s t e f = heard-is p h (MaybeSlave.Some s) _ e ∙ sum-kept p (storeSync p s) (λ u. synced h origin u (s .sync)) _ t f
-
   module _ (timestamp : Time) where
-    pub follow-unheard : hearer p h ≡ MaybeSlave.None → followUp p h timestamp ≡ nothing p
-    unfolding followUp
-    follow-unheard e = heard-is p h MaybeSlave.None _ e
-
-    pub follow-out : (s : SlaveState) → hearer p h ≡ MaybeSlave.Some s → timeOf (time timestamp +ℤ correction (h .correction)) ≡ TimeAnswer.Out → followUp p h timestamp ≡ refused Outcome.Range
-    unfolding followUp plusCorrection
-    follow-out s e f = heard-is p h (MaybeSlave.Some s) _ e ∙ sum-out p (storeSync p s) (λ t. followedUp (h .id) t (s .sync)) _ f
-
-    pub follow-kept : (s : SlaveState) (t : Time) → hearer p h ≡ MaybeSlave.Some s → timeOf (time timestamp +ℤ correction (h .correction)) ≡ TimeAnswer.Value t → followUp p h timestamp ≡ keptExchange p (storeSync p s) (exchangeChange (worked (followedUp (h .id) t (s .sync))))
-    unfolding followUp plusCorrection
-    follow-kept s t e f = heard-is p h (MaybeSlave.Some s) _ e ∙ sum-kept p (storeSync p s) (λ u. followedUp (h .id) u (s .sync)) _ t f
-
     -- ---- answers to a DelayReq, which have to be for us
 
     module _ (requester : Identity) where

@@ -22,44 +22,46 @@ pub half-is : (last raw : Duration) (a : DurationAnswer) → durationOf (duratio
 unfolding lessDuration
 half-is last raw a e = ap (λ (x : DurationAnswer). aDuration x then λ d. worked (MaybeDuration.Some (halfOf d))) e
 
--- ---- the measurements
+-- ---- Sync and Delay: a raw value, then a part that may be missing, then what is measured
+
+pub record TwoParts (whole : Worked Done) (raw : Worked Duration) (part : Duration → Worked MaybeDuration) (done : Duration → MaybeDuration → Worked Done) : Type 0 where
+  pub raw-out : refused Outcome.Range ≡ raw → whole ≡ refused Outcome.Range
+  pub part-out : (r : Duration) (o : Outcome) → worked r ≡ raw → refused o ≡ part r → whole ≡ refused o
+  pub both : (r : Duration) (d : MaybeDuration) → worked r ≡ raw → worked d ≡ part r → whole ≡ done r d
+
+module _ (raw : Worked Duration) (part : Duration → Worked MaybeDuration) (done : Duration → MaybeDuration → Worked Done) where
+  after-raw : (w : Worked Duration) → w ≡ raw → (raw then λ r. part r then done r) ≡ (w then λ r. part r then done r)
+  after-raw w e = ap (λ (x : Worked Duration). x then λ r. part r then done r) (sym e)
+
+  after-part : (r : Duration) (v : Worked MaybeDuration) → worked r ≡ raw → v ≡ part r → (raw then λ r. part r then done r) ≡ (v then done r)
+  after-part r v e f = after-raw (worked r) e ∙ ap (λ (x : Worked MaybeDuration). x then done r) (sym f)
+
+  two-parts : (whole : Worked Done) → whole ≡ (raw then λ r. part r then done r) → TwoParts whole raw part done
+  two-parts whole is =
+      record {
+        raw-out = λ e. is ∙ after-raw (refused Outcome.Range) e;
+        part-out = λ r o e f. is ∙ after-part r (refused o) e f;
+        both = λ r d e f. is ∙ after-part r (worked d) e f;
+      }
 
 module _ (p : Port) (s : SlaveState) (send receive : Time) where
   abbrev syncDone : Duration → MaybeDuration → Worked Done
   syncDone raw offset = worked (measured (syncOut p s raw) (Measurement.Sync receive raw offset) false)
 
-  sync-raw : (a : DurationAnswer) → aDuration a ≡ rawBetween receive send (p .config .asymmetry) → measureSync p s send receive ≡ (aDuration a then λ raw. lessMean raw (p .mean) then syncDone raw)
-  unfolding measureSync rawBetween
-  sync-raw a e =
-      sym (then-then (elapsed receive send) (λ apart. lessDuration apart (p .config .asymmetry)) (λ raw. lessMean raw (p .mean) then syncDone raw))
-      ∙ ap (λ (w : Worked Duration). w then λ raw. lessMean raw (p .mean) then syncDone raw) (sym e)
-
-  pub sync-out : refused Outcome.Range ≡ rawBetween receive send (p .config .asymmetry) → measureSync p s send receive ≡ refused Outcome.Range
-  sync-out e = sync-raw DurationAnswer.Out e
-
-  pub sync-refused : (raw : Duration) (o : Outcome) → worked raw ≡ rawBetween receive send (p .config .asymmetry) → refused o ≡ lessMean raw (p .mean) → measureSync p s send receive ≡ refused o
-  sync-refused raw o e f = sync-raw (DurationAnswer.Value raw) e ∙ ap (λ (w : Worked MaybeDuration). w then syncDone raw) (sym f)
-
-  pub sync-measured : (raw : Duration) (d : MaybeDuration) → worked raw ≡ rawBetween receive send (p .config .asymmetry) → worked d ≡ lessMean raw (p .mean) → measureSync p s send receive ≡ syncDone raw d
-  sync-measured raw d e f = sync-raw (DurationAnswer.Value raw) e ∙ ap (λ (w : Worked MaybeDuration). w then syncDone raw) (sym f)
-
   abbrev delayDone : Duration → MaybeDuration → Worked Done
   delayDone raw delay = worked (measured (delayOut p s) (Measurement.Delay send raw delay) false)
 
-  delay-raw : (a : DurationAnswer) → aDuration a ≡ rawBetween send receive (p .config .asymmetry) → measureDelay p s send receive ≡ (aDuration a then λ raw. halfBelow (s .raw) raw then delayDone raw)
+  pub sync-measures : TwoParts (measureSync p s send receive) (rawBetween receive send (p .config .asymmetry)) (λ raw. lessMean raw (p .mean)) syncDone
+  unfolding measureSync rawBetween
+  sync-measures =
+      two-parts _ (λ raw. lessMean raw (p .mean)) syncDone (measureSync p s send receive)
+      (sym (then-then (elapsed receive send) (λ apart. lessDuration apart (p .config .asymmetry)) (λ raw. lessMean raw (p .mean) then syncDone raw)))
+
+  pub delay-measures : TwoParts (measureDelay p s send receive) (rawBetween send receive (p .config .asymmetry)) (halfBelow (s .raw)) delayDone
   unfolding measureDelay rawBetween
-  delay-raw a e =
-      sym (then-then (elapsed send receive) (λ apart. lessDuration apart (p .config .asymmetry)) (λ raw. halfBelow (s .raw) raw then delayDone raw))
-      ∙ ap (λ (w : Worked Duration). w then λ raw. halfBelow (s .raw) raw then delayDone raw) (sym e)
-
-  pub delay-out : refused Outcome.Range ≡ rawBetween send receive (p .config .asymmetry) → measureDelay p s send receive ≡ refused Outcome.Range
-  delay-out e = delay-raw DurationAnswer.Out e
-
-  pub delay-refused : (raw : Duration) (o : Outcome) → worked raw ≡ rawBetween send receive (p .config .asymmetry) → refused o ≡ halfBelow (s .raw) raw → measureDelay p s send receive ≡ refused o
-  delay-refused raw o e f = delay-raw (DurationAnswer.Value raw) e ∙ ap (λ (w : Worked MaybeDuration). w then delayDone raw) (sym f)
-
-  pub delay-measured : (raw : Duration) (d : MaybeDuration) → worked raw ≡ rawBetween send receive (p .config .asymmetry) → worked d ≡ halfBelow (s .raw) raw → measureDelay p s send receive ≡ delayDone raw d
-  delay-measured raw d e f = delay-raw (DurationAnswer.Value raw) e ∙ ap (λ (w : Worked MaybeDuration). w then delayDone raw) (sym f)
+  delay-measures =
+      two-parts _ (halfBelow (s .raw)) delayDone (measureDelay p s send receive)
+      (sym (then-then (elapsed send receive) (λ apart. lessDuration apart (p .config .asymmetry)) (λ raw. halfBelow (s .raw) raw then delayDone raw)))
 
 -- two sums, and then a third of both
 two-then : {A B C D : Type 0} (w : Worked A) (v : Worked B) (f : A → B → Worked C) (g : C → Worked D) → (w then λ a. v then λ b. f a b) then g ≡ (w then λ a. v then λ b. f a b then g)

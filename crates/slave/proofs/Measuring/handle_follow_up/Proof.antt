@@ -1,6 +1,6 @@
 use mathlib.Core.Path.{ap, sym, _∙_}
 use Rattle.handling.specs.Handling.{handledOf}
-use Rattle.slave.proofs.HandleLaws.{follow-unheard, follow-kept, follow-out}
+use Rattle.slave.proofs.HandleLaws.{follow-up-hears}
 use borrow.Author.Needs.{needs}
 use Rattle.slave.proofs.Measuring.handle_follow_up.Statement.{statement}
 use Rattle.slave.proofs.Measuring.handle_follow_up.Tie as tie
@@ -36,13 +36,13 @@ refused-requires : tie.Need-refused-requires
 refused-requires c κs = tt
 
 returns : tie.Need-returns
-returns c = c .nothing .ensures ∙ ap (handledOf _) (sym (follow-unheard _ _ _ (sym (c .before .before .before .from-master .ensures) ∙ c .before .enum-told .given .1)))
+returns c = c .nothing .ensures ∙ ap (handledOf _) (sym (follow-up-hears _ _ _ .unheard (sym (c .before .before .before .from-master .ensures) ∙ c .before .enum-told .given .1)))
 
 returns-2 : tie.Need-returns-2
-returns-2 c = simp (c .keep-sync .ensures, c .before .followed-up .ensures) (ap (handledOf _) (sym (follow-kept _ _ _ _ _ (sym (c .before .before .before .before .before .before .before .before .before .from-master .ensures) ∙ c .before .before .before .before .before .before .before .slave .given .1) (sym (c .before .before .before .before .before .plus-correction .ensures) ∙ c .before .before .before .sum .given .1))))
+returns-2 c = simp (c .keep-sync .ensures, c .before .followed-up .ensures) (ap (handledOf _) (sym (follow-up-hears _ _ _ .stored _ _ (sym (c .before .before .before .before .before .before .before .before .before .from-master .ensures) ∙ c .before .before .before .before .before .before .before .slave .given .1) (sym (c .before .before .before .before .before .plus-correction .ensures) ∙ c .before .before .before .sum .given .1))))
 
 returns-3 : tie.Need-returns-3
-returns-3 c = c .refused .ensures ∙ ap (handledOf _) (sym (follow-out _ _ _ _ (sym (c .before .before .before .before .before .before .before .from-master .ensures) ∙ c .before .before .before .before .before .slave .given .1) (sym (c .before .before .before .plus-correction .ensures) ∙ c .before .enum-told2 .given .1)))
+returns-3 c = c .refused .ensures ∙ ap (handledOf _) (sym (follow-up-hears _ _ _ .out _ (sym (c .before .before .before .before .before .before .before .from-master .ensures) ∙ c .before .before .before .before .before .slave .given .1) (sym (c .before .before .before .plus-correction .ensures) ∙ c .before .enum-told2 .given .1)))
 
 pub handle-follow-up-spec : {M : Type 1} → statement M
 handle-follow-up-spec =

@@ -1,7 +1,7 @@
 use mathlib.Core.Path.{ap, sym, _∙_}
 use Rattle.handling.specs.Handling.{handledOf}
 use Rattle.rules.specs.Worked.{aDuration}
-use Rattle.slave.proofs.MeasureLaws.{sync-out, sync-refused, sync-measured}
+use Rattle.slave.proofs.MeasureLaws.{sync-measures}
 use Rattle.slave.specs.Taking.{aPart}
 use borrow.Author.Needs.{needs}
 use Rattle.slave.proofs.measure.measure_sync.Statement.{statement}
@@ -20,7 +20,7 @@ refused-requires : tie.Need-refused-requires
 refused-requires c κs = tt
 
 returns : tie.Need-returns
-returns c = c .refused .ensures ∙ ap (handledOf _) (sym (sync-out _ _ _ _ (ap aDuration (sym (c .before .enum-told .given .1)) ∙ c .before .before .before .raw-between .ensures)))
+returns c = c .refused .ensures ∙ ap (handledOf _) (sym (sync-measures _ _ _ _ .raw-out (ap aDuration (sym (c .before .enum-told .given .1)) ∙ c .before .before .before .raw-between .ensures)))
 
 less-mean-requires : tie.Need-less-mean-requires
 less-mean-requires c κs = tt
@@ -47,10 +47,10 @@ refused-requires-2 : tie.Need-refused-requires-2
 refused-requires-2 c κs = tt
 
 returns-2 : tie.Need-returns-2
-returns-2 c = simp (c .measured .ensures, c .before .with-slave .ensures, c .before .before .with-raw .ensures, c .before .before .before .with-sync .ensures) (ap (handledOf _) (sym (sync-measured _ _ _ _ _ _ (ap aDuration (sym (c .before .before .before .before .before .before .before .before .before .raw .given .1)) ∙ c .before .before .before .before .before .before .before .before .before .before .before .raw-between .ensures) (ap aPart (sym (c .before .before .before .before .before .part .given .1)) ∙ c .before .before .before .before .before .before .before .less-mean .ensures))))
+returns-2 c = simp (c .measured .ensures, c .before .with-slave .ensures, c .before .before .with-raw .ensures, c .before .before .before .with-sync .ensures) (ap (handledOf _) (sym (sync-measures _ _ _ _ .both _ _ (ap aDuration (sym (c .before .before .before .before .before .before .before .before .before .raw .given .1)) ∙ c .before .before .before .before .before .before .before .before .before .before .before .raw-between .ensures) (ap aPart (sym (c .before .before .before .before .before .part .given .1)) ∙ c .before .before .before .before .before .before .before .less-mean .ensures))))
 
 returns-3 : tie.Need-returns-3
-returns-3 c = c .refused2 .ensures ∙ ap (handledOf _) (sym (sync-refused _ _ _ _ _ _ (ap aDuration (sym (c .before .before .before .before .before .before .raw .given .1)) ∙ c .before .before .before .before .before .before .before .before .raw-between .ensures) (ap aPart (sym (c .before .before .part2 .given .1)) ∙ c .before .before .before .before .less-mean .ensures)))
+returns-3 c = c .refused2 .ensures ∙ ap (handledOf _) (sym (sync-measures _ _ _ _ .part-out _ _ (ap aDuration (sym (c .before .before .before .before .before .before .raw .given .1)) ∙ c .before .before .before .before .before .before .before .before .raw-between .ensures) (ap aPart (sym (c .before .before .part2 .given .1)) ∙ c .before .before .before .before .less-mean .ensures)))
 
 pub measure-sync-spec : {M : Type 1} → statement M
 measure-sync-spec =
