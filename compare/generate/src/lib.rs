@@ -7,12 +7,14 @@
 //! * `tour`, `orders`, `timers`, `fields`, `guards`, `limits`, `extremes`, `wraps`,
 //!   `exhaustive`, `window` and `damage` are written: the same for every seed and size,
 //!   but for the flipped bytes of `damage`. They alone reach every row of the report.
+//! * `day` is one long log for measuring speed, and no part of a comparison.
 //! * `coverage` reads finished logs and counts.
 
 pub mod build;
 pub mod coverage;
 pub mod damage;
 mod damage_inner;
+pub mod day;
 pub mod domain;
 pub mod exhaustive;
 pub mod extremes;

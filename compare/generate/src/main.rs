@@ -6,6 +6,9 @@
 //! number of events in random runs, half for each of the first two folders; the written
 //! logs come on top. The same N and S give the same bytes.
 //!
+//! `generate --day FILE --exchanges N --seed S` makes one log instead: a Slave's day of N
+//! Sync exchanges.
+//!
 //! Exit codes: 0 all is well; 1 something could not be read or written; 3 a row of the
 //! report is empty; 4 the report and the steered port disagree on an answer or a log.
 
@@ -13,13 +16,16 @@ use generate::coverage::Coverage;
 use generate::domain::Part;
 use generate::random::Random;
 use generate::stage::{Folder, Sink};
-use generate::{damage, exhaustive, extremes, extremes_peer, extremes_sent, fields, guards};
+use generate::{damage, day, exhaustive, extremes, extremes_peer, extremes_sent, fields, guards};
 use generate::{limits, orders, timers, tour, walk, window, wraps};
 use std::error::Error;
+use std::fs::File;
+use std::io::{BufWriter, Write};
 use std::path::{Path, PathBuf};
 use std::process::ExitCode;
 
-const USAGE: &str = "usage: generate OUT [--events N] [--seed S]";
+const USAGE: &str = "usage: generate OUT [--events N] [--seed S]
+       generate --day FILE [--exchanges N] [--seed S]";
 const FAILED: u8 = 1;
 const EMPTY: u8 = 3;
 const DISPUTED: u8 = 4;
@@ -28,6 +34,9 @@ struct Options {
     out: PathBuf,
     events: usize,
     seed: u64,
+    /// The file of a day, and the exchanges in it.
+    day: Option<PathBuf>,
+    exchanges: u64,
 }
 
 fn options() -> Result<Options, Box<dyn Error>> {
@@ -36,17 +45,21 @@ fn options() -> Result<Options, Box<dyn Error>> {
         out: PathBuf::new(),
         events: 1_000_000,
         seed: 1,
+        day: None,
+        exchanges: 1_000_000,
     };
     let mut named = false;
     while let Some(argument) = arguments.next() {
         match argument.as_str() {
             "--events" => options.events = arguments.next().ok_or(USAGE)?.parse()?,
             "--seed" => options.seed = arguments.next().ok_or(USAGE)?.parse()?,
+            "--day" => options.day = Some(arguments.next().ok_or(USAGE)?.into()),
+            "--exchanges" => options.exchanges = arguments.next().ok_or(USAGE)?.parse()?,
             _ if named || argument.starts_with('-') => return Err(USAGE.into()),
             _ => (options.out, named) = (argument.into(), true),
         }
     }
-    if named {
+    if named != options.day.is_some() {
         Ok(options)
     } else {
         Err(USAGE.into())
@@ -105,8 +118,18 @@ fn written(seed: u64, sink: &mut Sink) {
     damage::write(seed, sink);
 }
 
+fn write_day(file: &Path, options: &Options) -> std::io::Result<()> {
+    let mut sink = BufWriter::new(File::create(file)?);
+    day::write(options.seed, options.exchanges, &mut sink)?;
+    sink.flush()
+}
+
 fn run() -> Result<ExitCode, Box<dyn Error>> {
     let options = options()?;
+    if let Some(file) = &options.day {
+        write_day(file, &options)?;
+        return Ok(ExitCode::SUCCESS);
+    }
     for folder in [Folder::Domain, Folder::Beyond, Folder::Damaged] {
         prepare(&options.out.join(folder.name()))?;
     }

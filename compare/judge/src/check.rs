@@ -40,6 +40,7 @@ pub fn check(judges: &Judges, options: &Options) -> io::Result<bool> {
         fs::remove_dir_all(findings)?;
     }
     let tasks = tasks::all(options)?;
+    say_programs(judges, options);
     let mut table = Table::default();
     let mut findings = Vec::new();
     for (task, outcomes) in judged(judges, &tasks)? {
@@ -76,6 +77,18 @@ pub fn check(judges: &Judges, options: &Options) -> io::Result<bool> {
          {missing} rows without known answers"
     );
     Ok(found == 0 && unused == 0 && missing == 0)
+}
+
+/// Which programs join, and on how many logs.
+fn say_programs(judges: &Judges, options: &Options) {
+    let given = judges.given();
+    if !given.is_empty() {
+        let share = match options.share {
+            1 => "on all logs".to_string(),
+            n => format!("on all cases and stored logs, and on 1 in {n} of the generated ones"),
+        };
+        println!("judged too: {}, {share}\n", given.join(", "));
+    }
 }
 
 /// Rows of the coverage report that neither a case nor a stored log reaches.
@@ -129,6 +142,7 @@ fn tell(finding: &Finding, task: &Task, judges: &Judges, options: &Options) -> i
         line,
         expected,
         got,
+        stopped,
     } = &finding.difference;
     println!(
         "{}: {}, line {line}",
@@ -136,7 +150,7 @@ fn tell(finding: &Finding, task: &Task, judges: &Judges, options: &Options) -> i
         program::name(&task.log)
     );
     println!("  expected {expected}\n  got      {got}");
-    match options.smallest {
+    match options.smallest && !stopped {
         true => judges.smallest(finding.judge, &task.log, &options.logs),
         false => Ok(()),
     }

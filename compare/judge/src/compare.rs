@@ -3,6 +3,7 @@
 use crate::{
     fields,
     predict::{self, Rule},
+    program::Output,
 };
 
 /// Where two outputs part.
@@ -11,6 +12,8 @@ pub struct Difference {
     pub line: usize,
     pub expected: String,
     pub got: String,
+    /// The program did not end by itself.
+    pub stopped: bool,
 }
 
 /// What the Rust should write where plain writes `ours`; in how many lines a listed rule made
@@ -32,13 +35,14 @@ pub fn expected_of_rust(log: &[u8], ours: &str) -> (Vec<String>, usize, Vec<Rule
 }
 
 /// A program that did not end well differs from anything.
-pub fn difference(expected: &[String], got: &Result<String, String>) -> Option<Difference> {
+pub fn difference(expected: &[String], got: &Output) -> Option<Difference> {
     match got {
         Ok(got) => first_difference(expected.iter().map(String::as_str), got),
         Err(error) => Some(Difference {
             line: 0,
             expected: "an answer".into(),
-            got: error.clone(),
+            got: error.to_string(),
+            stopped: error.stopped(),
         }),
     }
 }
@@ -62,6 +66,7 @@ fn first_difference<'a>(
                 line,
                 expected: text(left),
                 got: text(right),
+                stopped: false,
             });
         }
     }

@@ -5,7 +5,7 @@ use std::{fs, io, path::Path};
 use crate::{
     compare::{self, Difference},
     predict::Rule,
-    program::{self, Program},
+    program::{self, Failure, Output, Program},
     shrink,
     tasks::{written, Task},
     Options,
@@ -39,8 +39,6 @@ pub struct Outcome {
     pub difference: Option<Difference>,
 }
 
-type Output = Result<String, String>;
-
 impl Outcome {
     fn new(judge: Judge, what: String, expected: &[String], got: &Output) -> Outcome {
         Outcome {
@@ -57,11 +55,11 @@ impl Outcome {
 impl Judges {
     pub fn new(options: &Options) -> io::Result<Judges> {
         Ok(Judges {
-            trace: Program::new("plain trace", options.built.join("trace")),
-            replay: Program::new("plain replay", options.built.join("replay")),
-            statime: Program::new("statime", &options.statime),
+            trace: Program::new("plain trace", options.built.join("trace"), options.limit),
+            replay: Program::new("plain replay", options.built.join("replay"), options.limit),
+            statime: Program::new("statime", &options.statime, options.limit),
             programs: match &options.programs {
-                Some(folder) => program::in_folder(folder)?,
+                Some(folder) => program::in_folder(folder, options.limit)?,
                 None => Vec::new(),
             },
         })
@@ -86,14 +84,19 @@ impl Judges {
         let what = format!("plain replay = its trace, {}", task.folder);
         let got = self.replay.output(&task.log)?;
         outcomes.push(Outcome::new(Judge::Plain, what, &replayed, &got));
-        if task.domain {
-            self.compare_rust(task, &ours, &mut outcomes)?;
+        let theirs = match task.domain {
+            true => Some(self.compare_rust(task, &ours, &mut outcomes)?),
+            false => None,
+        };
+        if task.programs {
+            let known = (&*ours, &*replayed, theirs.as_ref());
+            self.compare_programs(task, known, &mut outcomes)?;
         }
-        self.compare_programs(task, &ours, &replayed, &mut outcomes)?;
         Ok(outcomes)
     }
 
-    fn compare_rust(&self, task: &Task, ours: &str, to: &mut Vec<Outcome>) -> io::Result<()> {
+    /// Tells what the Rust wrote.
+    fn compare_rust(&self, task: &Task, ours: &str, to: &mut Vec<Outcome>) -> io::Result<Output> {
         let theirs = self.statime.output(&task.log)?;
         if let Some(lines) = &task.rust {
             let what = "statime = stored answers".to_string();
@@ -107,24 +110,44 @@ impl Judges {
             used,
             ..outcome
         });
-        Ok(())
+        Ok(theirs)
     }
 
+    /// Each program with plain and, in the domain, what it traced with what the Rust wrote.
     fn compare_programs(
         &self,
         task: &Task,
-        ours: &str,
-        replayed: &[String],
+        (ours, replayed, theirs): (&str, &[String], Option<&Output>),
         to: &mut Vec<Outcome>,
     ) -> io::Result<()> {
         let traced: Vec<String> = ours.lines().map(str::to_string).collect();
         for (at, program) in self.programs.iter().enumerate() {
-            let expected = if program.traces() { &traced } else { replayed };
-            let what = format!("{} = plain, {}", program.name, task.folder);
+            let judge = Judge::Program(at);
+            let (own, expected) = match program.traces() {
+                true => ("trace", traced.as_slice()),
+                false => ("replay", replayed),
+            };
+            let what = format!("{} = plain {own}, {}", program.name, task.folder);
             let got = program.output(&task.log)?;
-            to.push(Outcome::new(Judge::Program(at), what, expected, &got));
+            to.push(Outcome::new(judge, what, expected, &got));
+            if let (true, Some(theirs), Ok(got)) = (program.traces(), theirs, got) {
+                let (expected, predicted, _) =
+                    compare::expected_of_rust(&fs::read(&task.log)?, &got);
+                let what = format!("statime = {} by the rules, {}", program.name, task.folder);
+                let outcome = Outcome::new(judge, what, &expected, theirs);
+                // The rules' uses were counted with plain.
+                to.push(Outcome {
+                    predicted,
+                    ..outcome
+                });
+            }
         }
         Ok(())
+    }
+
+    /// The names of the programs that were given.
+    pub fn given(&self) -> Vec<&str> {
+        self.programs.iter().map(|program| &*program.name).collect()
     }
 
     /// Leaves the smallest log that shows a difference of this judge's among the findings, and
@@ -163,7 +186,9 @@ impl Judges {
                 } else {
                     self.replay.output(file)?
                 };
-                Ok(ours != program.output(file)?)
+                let theirs = program.output(file)?;
+                let stopped = theirs.as_ref().is_err_and(Failure::stopped);
+                Ok(ours != theirs && !stopped)
             }
             Judge::Statime => {
                 let Ok(ours) = ours else { return Ok(false) };

@@ -110,6 +110,10 @@ fn places(kind: u8, config: &[u8], event: Seen) -> Vec<Place> {
 /// Turns our packet into the one expected of the Rust, and says which rules changed a byte. Ours
 /// must first be what 01 says in every such place; where it is not, that place is the error.
 fn packet(ours: &mut [u8], config: &[u8], event: Seen) -> Result<Vec<Rule>, usize> {
+    // An answer where nothing was asked: a program that is judged may write anything.
+    if matches!(ours[0] & 15, 3 | 9) && event.message.len() < 34 {
+        return Err(0);
+    }
     let mut used = Vec::new();
     for Place {
         at,
@@ -147,7 +151,7 @@ pub fn line(line: &str, config: &[u8], event: Seen) -> (String, Vec<Rule>) {
             (fields.join(" "), used)
         }
         Err(at) => (
-            format!("{line} (plain: from byte {at} on not as 01 has it)"),
+            format!("{line} (from byte {at} on not as 01 has it)"),
             Vec::new(),
         ),
     }
@@ -255,6 +259,14 @@ mod tests {
             },
         );
         assert_ne!(expected, text);
+    }
+
+    #[test]
+    fn an_answer_needs_a_request() {
+        for kind in [3, 9] {
+            let event = Seen::default();
+            assert_eq!(packet(&mut ours(kind), &config(), event), Err(0));
+        }
     }
 
     #[test]

@@ -12,7 +12,7 @@ use generate::stage::Folder;
 use crate::{
     cover::{self, Reached},
     judges::Judges,
-    program::{files, name},
+    program::{files, name, Failure},
     stored::Stored,
     Options,
 };
@@ -112,12 +112,11 @@ fn answer(
     about: &str,
     domain: bool,
 ) -> io::Result<Stored> {
+    let failed = |failure: Failure| io::Error::other(failure.to_string());
     let lines = |text: String| text.lines().map(str::to_string).collect::<Vec<_>>();
-    let trace = lines(judges.trace.output(log)?.map_err(io::Error::other)?);
+    let trace = lines(judges.trace.output(log)?.map_err(failed)?);
     let rust = match domain {
-        true => Some(lines(
-            judges.statime.output(log)?.map_err(io::Error::other)?,
-        )),
+        true => Some(lines(judges.statime.output(log)?.map_err(failed)?)),
         false => None,
     };
     Ok(Stored {

@@ -18,6 +18,8 @@ pub struct Task {
     pub known: Option<(&'static str, Vec<String>)>,
     /// Lines that the supplied Rust wrote when they were stored.
     pub rust: Option<Vec<String>>,
+    /// Whether the programs that were given are put to it: slow ones take a share.
+    pub programs: bool,
 }
 
 /// All of them: the cases made by hand, the stored answers, the generated logs.
@@ -30,6 +32,7 @@ pub fn all(options: &Options) -> io::Result<Vec<Task>> {
             domain: case.domain,
             known: Some(("plain trace = cases, by hand", case.lines)),
             rust: None,
+            programs: true,
         });
     }
     for file in some(&options.vectors, "txt")? {
@@ -37,13 +40,15 @@ pub fn all(options: &Options) -> io::Result<Vec<Task>> {
     }
     cases_are_stored(&tasks)?;
     for (folder, domain) in [("domain", true), ("beyond", false), ("damaged", false)] {
-        for log in some(&options.logs.join(folder), "log")? {
+        let logs = some(&options.logs.join(folder), "log")?;
+        for (at, log) in logs.into_iter().enumerate() {
             tasks.push(Task {
                 folder,
                 log,
                 domain,
                 known: None,
                 rust: None,
+                programs: at.is_multiple_of(options.share),
             });
         }
     }
@@ -60,6 +65,7 @@ fn add_stored(file: &Path, options: &Options, tasks: &mut Vec<Task>) -> io::Resu
             domain: stored.rust.is_some(),
             known: Some(("plain trace = stored answers", stored.trace)),
             rust: stored.rust,
+            programs: true,
         });
     }
     Ok(())
@@ -73,7 +79,10 @@ fn cases_are_stored(tasks: &[Task]) -> io::Result<()> {
     }
     for case in cases::all() {
         if stored.get(case.name) != Some(&case.log) {
-            let text = format!("case {} is not stored as it is: compare/run --store", case.name);
+            let text = format!(
+                "case {} is not stored as it is: compare/run --store",
+                case.name
+            );
             return Err(io::Error::other(text));
         }
     }

@@ -33,14 +33,14 @@ fn get(s: &[u8], at: usize, width: usize) -> u64
     r
 }
 
-pub(crate) fn get_u8(s: &[u8], at: usize) -> u8
+pub fn get_u8(s: &[u8], at: usize) -> u8
     requires { ⌜ at + 1 ≤ length (now s) ⌝ }
     ensures { λ r. ⌜ r ≡ number at 1 (now (s .entry)) ⌝ }
 {
     get(s, at, 1) as u8
 }
 
-pub(crate) fn get_u16(s: &[u8], at: usize) -> u16
+pub fn get_u16(s: &[u8], at: usize) -> u16
     requires { ⌜ at + 2 ≤ length (now s) ⌝ }
     ensures { λ r. ⌜ r ≡ number at 2 (now (s .entry)) ⌝ }
 {
@@ -54,14 +54,14 @@ fn get_u32(s: &[u8], at: usize) -> u32
     get(s, at, 4) as u32
 }
 
-pub(crate) fn get_u64(s: &[u8], at: usize) -> u64
+pub fn get_u64(s: &[u8], at: usize) -> u64
     requires { ⌜ at + 8 ≤ length (now s) ⌝ }
     ensures { λ r. ⌜ r ≡ number at 8 (now (s .entry)) ⌝ }
 {
     get(s, at, 8)
 }
 
-pub(crate) fn get_timestamp(s: &[u8], at: usize) -> WireTimestamp
+pub fn get_timestamp(s: &[u8], at: usize) -> WireTimestamp
     requires { ⌜ at + 10 ≤ length (now s) ⌝ }
     ensures { λ r. ⌜ r ≡ timestampAt at (now (s .entry)) ⌝ }
 {
@@ -71,7 +71,7 @@ pub(crate) fn get_timestamp(s: &[u8], at: usize) -> WireTimestamp
     }
 }
 
-pub(crate) fn get_identity(s: &[u8], at: usize) -> Identity
+pub fn get_identity(s: &[u8], at: usize) -> Identity
     requires { ⌜ at + 10 ≤ length (now s) ⌝ }
     ensures { λ r. ⌜ r ≡ identityAt at (now (s .entry)) ⌝ }
 {

@@ -4,7 +4,7 @@ ghost use mathlib.Core.Path.{_≡_};
 ghost use Rattle.wire.specs.Reading.{readOf};
 
 mod bodies;
-mod fields;
+pub mod fields;
 mod headers;
 mod types;
 

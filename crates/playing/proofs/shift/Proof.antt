@@ -1,0 +1,71 @@
+use native.Mathlib.Omega.{arith}
+use Prim.Native.Nat.{_-_}
+use mathlib.Core.Path.{_≡_}
+use Rattle.playing.proofs.Moving.{Moved, moved-none, moved-more}
+use Rattle.playing.proofs.shift.Statement.{statement}
+use Rattle.playing.proofs.shift.Tie as tie
+use Rattle.playing.proofs.shift.Reads as reads
+use Rattle.playing.proofs.shift.Lts as lts
+
+abbrev Inv-loop : tie.InvT-loop
+Inv-loop w₀ from to n i₀ w i = Moved w₀ from n w i
+
+abbrev μ-loop : tie.MeasureT-loop
+μ-loop w₀ from to n i₀ w i = n - i
+
+-- src/main.rt:23:13
+sub-n : tie.Need-sub-n Inv-loop μ-loop
+sub-n c = omega arith
+
+-- src/main.rt:25:5
+loop-holds : tie.Need-loop-holds Inv-loop μ-loop
+loop-holds c = moved-none _ _ _ (omega arith)
+
+-- src/main.rt:26:18
+add-w : tie.Need-add-w Inv-loop μ-loop
+add-w c = omega arith
+
+-- src/main.rt:26:16
+slice-read-w : tie.Need-slice-read-w Inv-loop μ-loop
+slice-read-w c = omega arith
+
+-- src/main.rt:26:9
+slice-write-w : tie.Need-slice-write-w Inv-loop μ-loop
+slice-write-w c = omega arith
+
+-- src/main.rt:27:9
+add-i : tie.Need-add-i Inv-loop μ-loop
+add-i c = omega arith
+
+-- src/main.rt:25:5
+loop-less : tie.Need-loop-less Inv-loop μ-loop
+loop-less c = omega arith
+
+-- src/main.rt:25:5
+loop-again : tie.Need-loop-again Inv-loop μ-loop
+loop-again c = moved-more _ _ _ _ _ (c .before .before .loop .inv) (c .before .loop-test .taken)
+
+-- src/main.rt:19:1
+same-length : tie.Need-same-length Inv-loop μ-loop
+same-length c = c .before .loop .inv .same
+
+-- src/main.rt:19:1
+returns : tie.Need-returns Inv-loop μ-loop
+returns c = let e : c .before .loop .i ≡ c .before .before .args .to - c .before .before .args .from = omega arith in rw e at (c .before .loop .inv .done)
+
+pub shift-spec : {M : Type 1} → statement M
+shift-spec =
+    tie.close
+    (tie.spec
+    Inv-loop
+    μ-loop
+    sub-n
+    loop-holds
+    add-w
+    slice-read-w
+    slice-write-w
+    add-i
+    loop-less
+    loop-again
+    same-length
+    returns)

@@ -1,0 +1,19 @@
+use borrow.Author.Needs.{needs}
+use Rattle.text.specs.PageLaws.{wrote-then}
+use Rattle.recording.proofs.laying.words.Statement.{statement}
+use Rattle.recording.proofs.laying.words.Tie as tie
+
+spell-requires : tie.Need-spell-requires
+spell-requires c κs = tt
+
+spell-requires-2 : tie.Need-spell-requires-2
+spell-requires-2 c κs = tt
+
+same-length : tie.Need-same-length
+same-length c = search needs
+
+returns : tie.Need-returns
+returns c = wrote-then (c .before .before .before .before .before .before .spell .ensures) (c .before .before .spell2 .ensures)
+
+pub words-spec : {M : Type 1} → statement M
+words-spec = tie.close (tie.spec spell-requires spell-requires-2 same-length returns)
