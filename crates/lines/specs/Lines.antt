@@ -24,6 +24,7 @@ use Rattle.record.specs.Answers.{numberOf}
 use Rattle.record.specs.Record.{stateNumber}
 use Rattle.rules.specs.Events.{Result}
 use Rattle.port.specs.ToldLaws.{firstActions}
+use Rattle.text.specs.Ascii.{ascii}
 use Rattle.text.specs.Digits.{decimalOf, hexIn, hexOf}
 use Rattle.lines.specs.declared.Style.{Style}
 use Rattle.lines.specs.declared.Shown.{Shown}
@@ -32,7 +33,7 @@ use Rattle.lines.specs.declared.Shown.{Shown}
 
 -- what is not there
 abbrev pub dash : List ℕ
-dash = 45 ∷ []  -- -
+dash = ascii "-"
 
 -- 32 digits: the two words side by side, a duration's in two's complement
 abbrev pub timeText : Time → List ℕ
@@ -82,31 +83,22 @@ shownOf (MaybeMeasurement.Some (Measurement.Peer t delay)) =
 
 -- kind and id, and a requester's identity
 unfoldable pub contextText : Context → List ℕ
-contextText (Context.Sync id) = 48 ∷ 58 ∷ decimalOf id
-contextText (Context.DelayReq id) = 49 ∷ 58 ∷ decimalOf id
-contextText (Context.PDelayReq id) = 50 ∷ 58 ∷ decimalOf id
-contextText (Context.PDelayResp id who) = 51 ∷ 58 ∷ decimalOf id ++ (58 ∷ identityText who)
+contextText (Context.Sync id) = ascii "0:" ++ decimalOf id
+contextText (Context.DelayReq id) = ascii "1:" ++ decimalOf id
+contextText (Context.PDelayReq id) = ascii "2:" ++ decimalOf id
+contextText (Context.PDelayResp id who) = ascii "3:" ++ (decimalOf id ++ (58 ∷ identityText who))
 
--- :link
 unfoldable pub linkText : Bool → List ℕ
-linkText true = 58 ∷ 108 ∷ 105 ∷ 110 ∷ 107 ∷ []
+linkText true = ascii ":link"
 linkText false = []
 
 unfoldable pub actionText : Action → List ℕ
 actionText Action.None = dash
--- sync-timer:
-actionText (Action.ResetSyncTimer ns) = 115 ∷ 121 ∷ 110 ∷ 99 ∷ 45 ∷ 116 ∷ 105 ∷ 109 ∷ 101 ∷ 114 ∷ 58 ∷ decimalOf ns
--- delay-timer:
-actionText (Action.ResetDelayRequestTimer ns) =
-    100 ∷ 101 ∷ 108 ∷ 97 ∷ 121 ∷ 45 ∷ 116 ∷ 105 ∷ 109 ∷ 101 ∷ 114 ∷ 58 ∷ decimalOf ns
--- filter-timer:
-actionText (Action.ResetFilterUpdateTimer ns) =
-    102 ∷ 105 ∷ 108 ∷ 116 ∷ 101 ∷ 114 ∷ 45 ∷ 116 ∷ 105 ∷ 109 ∷ 101 ∷ 114 ∷ 58 ∷ decimalOf ns
--- event:
-actionText (Action.SendEvent context link) =
-    101 ∷ 118 ∷ 101 ∷ 110 ∷ 116 ∷ 58 ∷ contextText context ++ linkText link
--- general
-actionText (Action.SendGeneral link) = 103 ∷ 101 ∷ 110 ∷ 101 ∷ 114 ∷ 97 ∷ 108 ∷ linkText link
+actionText (Action.ResetSyncTimer ns) = ascii "sync-timer:" ++ decimalOf ns
+actionText (Action.ResetDelayRequestTimer ns) = ascii "delay-timer:" ++ decimalOf ns
+actionText (Action.ResetFilterUpdateTimer ns) = ascii "filter-timer:" ++ decimalOf ns
+actionText (Action.SendEvent context link) = ascii "event:" ++ (contextText context ++ linkText link)
+actionText (Action.SendGeneral link) = ascii "general" ++ linkText link
 
 abbrev pub actionTexts : List Action → List (List ℕ)
 actionTexts [] = []
@@ -124,9 +116,8 @@ abbrev pub sentText : List ℕ → List ℕ
 sentText [] = dash
 sentText (b ∷ s) = hexOf (b ∷ s)
 
--- reset
 unfoldable pub resetText : Bool → List ℕ
-resetText true = 114 ∷ 101 ∷ 115 ∷ 101 ∷ 116 ∷ []
+resetText true = ascii "reset"
 resetText false = dash
 
 -- the event's number, the answer's, the letter and the value
@@ -157,9 +148,8 @@ lineFor style n a sent = lineWith style n (a .outcome) (a .measurement) sent (fi
 
 -- ---- the last line
 
--- bad at OFFSET
 unfoldable pub badLine : ℕ → List ℕ
-badLine offset = 98 ∷ 97 ∷ 100 ∷ 32 ∷ 97 ∷ 116 ∷ 32 ∷ decimalOf offset ++ (10 ∷ [])
+badLine offset = ascii "bad at " ++ (decimalOf offset ++ (10 ∷ []))
 
 unfoldable pub exchangeText : Exchange → List ℕ
 exchangeText Exchange.Empty = dash
@@ -167,12 +157,10 @@ exchangeText (Exchange.Measuring id send receive) = marked 58 (decimalOf id) (ma
 
 unfoldable pub peerText : PeerState → List ℕ
 peerText PeerState.Empty = dash
--- open
 peerText (PeerState.Measuring id who a b c d) =
-    marked 58 (111 ∷ 112 ∷ 101 ∷ 110 ∷ [])
+    marked 58 (ascii "open")
     (decimalOf id ∷ maybeIdentity who ∷ maybeTime a ∷ maybeTime b ∷ maybeTime c ∷ maybeTime d ∷ [])
--- done
-peerText (PeerState.Measured id who) = marked 58 (100 ∷ 111 ∷ 110 ∷ 101 ∷ []) (decimalOf id ∷ identityText who ∷ [])
+peerText (PeerState.Measured id who) = marked 58 (ascii "done") (decimalOf id ∷ identityText who ∷ [])
 
 -- the master, both exchanges and the raw offset, which only a Slave has
 unfoldable pub slaveTexts : PortState → List (List ℕ)
@@ -189,7 +177,7 @@ idsText i = marked 58 (decimalOf (i .sync)) (decimalOf (i .delay) ∷ decimalOf 
 -- end STATE MASTER SYNC DELAY RAW PEER MEAN IDS
 unfoldable pub endLine : Port → List ℕ
 endLine p =
-    row ((101 ∷ 110 ∷ 100 ∷ []) ∷ decimalOf (stateNumber (p .state)) ∷ (slaveTexts (p .state) ++ (peerText (p .peer) ∷ maybeDuration (p .mean) ∷ idsText (p .ids) ∷ [])))
+    row (ascii "end" ∷ decimalOf (stateNumber (p .state)) ∷ (slaveTexts (p .state) ++ (peerText (p .peer) ∷ maybeDuration (p .mean) ∷ idsText (p .ids) ∷ [])))
 
 -- what a good log ends with: `replay` writes nothing more
 unfoldable pub lastLine : Style → Port → List ℕ

@@ -6,3 +6,4 @@ pub mod Sessions
 pub mod WritesLaws
 pub mod SessionLaws
 pub mod AnsweringLaws
+pub mod EndsLaws

@@ -1,10 +1,10 @@
 -- A session: turn after turn over windows of any size, until nothing more is to come. Whatever the pieces in which the log comes, and whatever room the buffer has in each turn, what is written is what `Replay` says.
-use Prim.Native.Nat.{ℕ}
+use Prim.Native.Nat.{ℕ, _+_, _≤_, _<_}
 use mathlib.Core.Path.{_≡_}
-use mathlib.Core.Bool.{Bool, true, false}
+use mathlib.Core.Bool.{Bool, true, false, cond}
 use mathlib.Core.List.{List, [], _∷_, _++_}
 use mathlib.Core.Option.{Option, none, some}
-use lib.ListN.{drop}
+use lib.ListN.{length, drop}
 use Rattle.record.specs.declared.Config.{Config}
 use Rattle.record.specs.declared.Mechanism.{Mechanism}
 use Rattle.record.specs.Record.{portOf}
@@ -13,7 +13,7 @@ use Rattle.lines.specs.declared.Style.{Style}
 use Rattle.replaying.specs.declared.State.{State}
 use Rattle.replaying.specs.declared.Stop.{Stop}
 use Rattle.replaying.specs.Replay.{replayLines}
-use Rattle.replaying.specs.Turns.{Run, runOver}
+use Rattle.replaying.specs.Turns.{lineRoom, Run, runOver}
 
 -- the port before the configuration has been read is never asked
 abbrev blank : Config
@@ -54,3 +54,15 @@ session style (room ∷ rooms) q u last ps =
 -- the theorem `session-writes` of `SessionLaws`: a session that comes to an end has written the lines of the whole log
 abbrev pub WritesTheLines : Style → List ℕ → List (List ℕ) → List ℕ → Type 0
 WritesTheLines style rooms ps w = session style rooms startOf [] false ps ≡ some w → w ≡ replayLines style (joined ps)
+
+-- and `session-ends` of `EndsLaws`: it does come to an end, if each turn has room for a line and there are more turns than bytes and pieces to come
+abbrev pub Roomy : List ℕ → Type 0
+Roomy [] = Unit {0}
+Roomy (room ∷ rooms) = (lineRoom ≤ room) × Roomy rooms
+
+abbrev pub turnsFor : List ℕ → Bool → List (List ℕ) → ℕ
+turnsFor u last ps = length u + (length (joined ps) + (length ps + cond {A = ℕ} last 0 1))
+
+abbrev pub WritesAll : Style → List ℕ → List (List ℕ) → Type 0
+WritesAll style rooms ps =
+    Roomy rooms → turnsFor [] false ps < length rooms → session style rooms startOf [] false ps ≡ some (replayLines style (joined ps))
