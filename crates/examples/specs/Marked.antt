@@ -1,4 +1,4 @@
--- Document 01, 'Marked examples (proved in a single statement over the set)', by computing.
+-- Document 01, 'Marked examples': one statement for all of them, by computing.
 use Prim.Native.Nat.{ℕ}
 use mathlib.Core.Path.{_≡_, refl, ap}
 use mathlib.Core.List.{List, [], _∷_, _++_}

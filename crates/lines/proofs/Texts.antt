@@ -9,23 +9,23 @@ use Rattle.port.specs.ToldLaws.{firstActions}
 use Rattle.text.specs.Page.{Wrote}
 use Rattle.text.specs.PageLaws.{wrote-as}
 use Rattle.text.specs.Digits.{hexOf}
-use Rattle.lines.specs.Lines.{behind, marked, dash, sentText}
+use Rattle.lines.specs.Lines.{following, marked, dash, sentText}
 
 -- nothing stands behind the last text
 pub wrote-end : {d : List ℕ} {at : ℕ} {w e : List ℕ} {k : ℕ} → Wrote d at w e k → Wrote d at (w ++ []) e k
 wrote-end {w = w} p = wrote-as (sym (append-nil w)) p
 
-pub behind-append : (mark : ℕ) (xs ys : List (List ℕ)) → behind mark xs ++ behind mark ys ≡ behind mark (xs ++ ys)
+pub behind-append : (mark : ℕ) (xs ys : List (List ℕ)) → following mark xs ++ following mark ys ≡ following mark (xs ++ ys)
 behind-append mark [] ys = refl
 behind-append mark (x ∷ xs) ys =
-    append-assoc (mark ∷ x) (behind mark xs) (behind mark ys) ∙ ap (λ (l : List ℕ). mark ∷ x ++ l) (behind-append mark xs ys)
+    append-assoc (mark ∷ x) (following mark xs) (following mark ys) ∙ ap (λ (l : List ℕ). mark ∷ x ++ l) (behind-append mark xs ys)
 
-pub marked-append : (mark : ℕ) (x : List ℕ) (xs ys : List (List ℕ)) → marked mark x xs ++ behind mark ys ≡ marked mark x (xs ++ ys)
-marked-append mark x xs ys = append-assoc x (behind mark xs) (behind mark ys) ∙ ap (λ (l : List ℕ). x ++ l) (behind-append mark xs ys)
+pub marked-append : (mark : ℕ) (x : List ℕ) (xs ys : List (List ℕ)) → marked mark x xs ++ following mark ys ≡ marked mark x (xs ++ ys)
+marked-append mark x xs ys = append-assoc x (following mark xs) (following mark ys) ∙ ap (λ (l : List ℕ). x ++ l) (behind-append mark xs ys)
 
 -- texts in three parts
-pub behind-three : (mark : ℕ) (xs ys zs : List (List ℕ)) → behind mark xs ++ (behind mark ys ++ behind mark zs) ≡ behind mark (xs ++ (ys ++ zs))
-behind-three mark xs ys zs = ap (λ (l : List ℕ). behind mark xs ++ l) (behind-append mark ys zs) ∙ behind-append mark xs (ys ++ zs)
+pub behind-three : (mark : ℕ) (xs ys zs : List (List ℕ)) → following mark xs ++ (following mark ys ++ following mark zs) ≡ following mark (xs ++ (ys ++ zs))
+behind-three mark xs ys zs = ap (λ (l : List ℕ). following mark xs ++ l) (behind-append mark ys zs) ∙ behind-append mark xs (ys ++ zs)
 
 -- ---- the packet
 

@@ -59,13 +59,13 @@ maybeIdentity MaybeIdentity.None = dash
 maybeIdentity (MaybeIdentity.Some i) = identityText i
 
 -- texts one behind the other: a colon, a comma, a space before each
-abbrev pub behind : ℕ → List (List ℕ) → List ℕ
-behind mark [] = []
-behind mark (x ∷ xs) = mark ∷ x ++ behind mark xs
+abbrev pub following : ℕ → List (List ℕ) → List ℕ
+following mark [] = []
+following mark (x ∷ xs) = mark ∷ x ++ following mark xs
 
 -- the first, and each other behind a mark
 abbrev pub marked : ℕ → List ℕ → List (List ℕ) → List ℕ
-marked mark x xs = x ++ behind mark xs
+marked mark x xs = x ++ following mark xs
 
 -- ---- a measurement: its letter, the raw (for P the halved) value, event time, offset and delay
 

@@ -23,15 +23,15 @@ use Rattle.text.specs.Digits.{decimalOf, decimalIn, hexIn}
 use Rattle.text.specs.DigitsLaws.{length-decimal, length-hex, length-hexOf}
 use Rattle.lines.specs.declared.Style.{Style}
 use Rattle.lines.specs.declared.Shown.{Shown}
-use Rattle.lines.specs.Lines.{behind, marked, maybeTime, maybeDuration, maybeIdentity, identityText, shownOf, contextText, linkText, actionText, actionsText, sentText, resetText, traceTexts, lineWith, badLine, exchangeText, peerText, slaveTexts, idsText, endLine, lastLine}
+use Rattle.lines.specs.Lines.{following, marked, maybeTime, maybeDuration, maybeIdentity, identityText, shownOf, contextText, linkText, actionText, actionsText, sentText, resetText, traceTexts, lineWith, badLine, exchangeText, peerText, slaveTexts, idsText, endLine, lastLine}
 
 -- ---- sums of lengths
 
 -- one text more, with its mark
-short-behind : (mark : ℕ) (x : List ℕ) (xs : List (List ℕ)) {m n : ℕ} → length x ≤ m → length (behind mark xs) ≤ n → length (behind mark (x ∷ xs)) ≤ 1 + m + n
-short-behind mark x xs h k = omega (arith, length-append x (behind mark xs), h, k)
+short-behind : (mark : ℕ) (x : List ℕ) (xs : List (List ℕ)) {m n : ℕ} → length x ≤ m → length (following mark xs) ≤ n → length (following mark (x ∷ xs)) ≤ 1 + m + n
+short-behind mark x xs h k = omega (arith, length-append x (following mark xs), h, k)
 
-short-nothing : (mark : ℕ) → length (behind mark []) ≤ 0
+short-nothing : (mark : ℕ) → length (following mark []) ≤ 0
 short-nothing mark = omega arith
 
 -- ---- values
@@ -87,7 +87,7 @@ short-actions : (as′ : List Action) → length as′ ≤ 2 → length (actions
 short-actions [] h = omega arith
 short-actions (a ∷ []) h = omega (arith, length-append (actionText a) [], short-action a)
 short-actions (a ∷ b ∷ []) h =
-    omega (arith, length-append (actionText a) (behind 44 (actionText b ∷ [])), length-append (actionText b) [], short-action a, short-action b)
+    omega (arith, length-append (actionText a) (following 44 (actionText b ∷ [])), length-append (actionText b) [], short-action a, short-action b)
 short-actions (a ∷ b ∷ c ∷ more) h = absurd (omega (arith, h))
 
 -- ---- the line of an event
@@ -102,14 +102,14 @@ short-reset true = omega arith
 short-reset false = omega arith
 
 -- what stands behind the event's number
-short-replay : (o : Outcome) (m : Shown) (more : List (List ℕ)) {n : ℕ} → length (behind 32 more) ≤ n
-    → length (behind 32 (decimalOf (numberOf o) ∷ (m .letter ∷ []) ∷ maybeDuration (m .value) ∷ more)) ≤ 56 + n
+short-replay : (o : Outcome) (m : Shown) (more : List (List ℕ)) {n : ℕ} → length (following 32 more) ≤ n
+    → length (following 32 (decimalOf (numberOf o) ∷ (m .letter ∷ []) ∷ maybeDuration (m .value) ∷ more)) ≤ 56 + n
 short-replay o m more h =
     let value = short-behind 32 (maybeDuration (m .value)) more (short-duration (m .value)) h in
-    omega (arith, length-append (decimalOf (numberOf o)) (behind 32 ((m .letter ∷ []) ∷ maybeDuration (m .value) ∷ more)), short-decimal (numberOf o), value)
+    omega (arith, length-append (decimalOf (numberOf o)) (following 32 ((m .letter ∷ []) ∷ maybeDuration (m .value) ∷ more)), short-decimal (numberOf o), value)
 
 short-trace : (m : Shown) (sent : List ℕ) (as′ : List Action) (reset : Bool) → length as′ ≤ 2
-    → length (behind 32 (traceTexts m sent as′ reset)) ≤ 217 + 2 * length sent
+    → length (following 32 (traceTexts m sent as′ reset)) ≤ 217 + 2 * length sent
 short-trace m sent as′ reset h =
     let r = short-behind 32 (resetText reset) [] (short-reset reset) (short-nothing 32) in
     let a = short-behind 32 (actionsText as′) (resetText reset ∷ []) (short-actions as′ h) r in
@@ -120,9 +120,9 @@ short-trace m sent as′ reset h =
     omega (arith, t)
 
 -- a row of which all but the first text is known to be short
-short-row : (n : ℕ) (more : List (List ℕ)) {k : ℕ} → length (behind 32 more) ≤ k → length (marked 32 (decimalOf n) more ++ (10 ∷ [])) ≤ 21 + k
+short-row : (n : ℕ) (more : List (List ℕ)) {k : ℕ} → length (following 32 more) ≤ k → length (marked 32 (decimalOf n) more ++ (10 ∷ [])) ≤ 21 + k
 short-row n more h =
-    omega (arith, length-append (marked 32 (decimalOf n) more) (10 ∷ []), length-append (decimalOf n) (behind 32 more), short-decimal n, h)
+    omega (arith, length-append (marked 32 (decimalOf n) more) (10 ∷ []), length-append (decimalOf n) (following 32 more), short-decimal n, h)
 
 pub line-short : (style : Style) (n : ℕ) (o : Outcome) (m : MaybeMeasurement) (sent : List ℕ) (as′ : List Action) (reset : Bool)
     → length as′ ≤ 2 → length (lineWith style n o m sent as′ reset) ≤ 512 + 2 * length sent
@@ -149,7 +149,7 @@ short-exchange Exchange.Empty = omega arith
 short-exchange (Exchange.Measuring id send receive) =
     let r = short-behind 58 (maybeTime receive) [] (short-time receive) (short-nothing 58) in
     let s = short-behind 58 (maybeTime send) (maybeTime receive ∷ []) (short-time send) r in
-    omega (arith, length-append (decimalOf id) (behind 58 (maybeTime send ∷ maybeTime receive ∷ [])), short-decimal id, s)
+    omega (arith, length-append (decimalOf id) (following 58 (maybeTime send ∷ maybeTime receive ∷ [])), short-decimal id, s)
 
 short-peer : (x : PeerState) → length (peerText x) ≤ 178
 unfolding peerText
@@ -171,7 +171,7 @@ short-ids : (i : Ids) → length (idsText i) ≤ 62
 short-ids i =
     let p = short-behind 58 (decimalOf (i .peer)) [] (short-decimal (i .peer)) (short-nothing 58) in
     let d = short-behind 58 (decimalOf (i .delay)) (decimalOf (i .peer) ∷ []) (short-decimal (i .delay)) p in
-    omega (arith, length-append (decimalOf (i .sync)) (behind 58 (decimalOf (i .delay) ∷ decimalOf (i .peer) ∷ [])), short-decimal (i .sync), d)
+    omega (arith, length-append (decimalOf (i .sync)) (following 58 (decimalOf (i .delay) ∷ decimalOf (i .peer) ∷ [])), short-decimal (i .sync), d)
 
 -- a state's number is one digit
 short-number : (s : PortState) → length (decimalOf (stateNumber s)) ≤ 1
@@ -182,7 +182,7 @@ short-number PortState.Passive = omega arith
 short-number PortState.Faulty = omega arith
 short-number (PortState.Slave s) = omega arith
 
-short-slave : (s : PortState) (more : List (List ℕ)) {n : ℕ} → length (behind 32 more) ≤ n → length (behind 32 (slaveTexts s ++ more)) ≤ 228 + n
+short-slave : (s : PortState) (more : List (List ℕ)) {n : ℕ} → length (following 32 more) ≤ n → length (following 32 (slaveTexts s ++ more)) ≤ 228 + n
 unfolding slaveTexts
 short-slave PortState.Listening more h = omega (arith, h)
 short-slave PortState.Master more h = omega (arith, h)
@@ -204,7 +204,7 @@ short-end p =
     let x = short-behind 32 peer (maybeDuration (p .mean) ∷ idsText (p .ids) ∷ []) (short-peer (p .peer)) m in
     let s = short-slave (p .state) (peer ∷ maybeDuration (p .mean) ∷ idsText (p .ids) ∷ []) x in
     let n = short-behind 32 (decimalOf (stateNumber (p .state))) (slaveTexts (p .state) ++ (peer ∷ maybeDuration (p .mean) ∷ idsText (p .ids) ∷ [])) (short-number (p .state)) s in
-    omega (arith, length-append (behind 32 (decimalOf (stateNumber (p .state)) ∷ (slaveTexts (p .state) ++ (peer ∷ maybeDuration (p .mean) ∷ idsText (p .ids) ∷ [])))) (10 ∷ []), n)
+    omega (arith, length-append (following 32 (decimalOf (stateNumber (p .state)) ∷ (slaveTexts (p .state) ++ (peer ∷ maybeDuration (p .mean) ∷ idsText (p .ids) ∷ [])))) (10 ∷ []), n)
 
 pub last-short : (style : Style) (p : Port) → length (lastLine style p) ≤ 512
 unfolding lastLine

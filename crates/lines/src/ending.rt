@@ -3,7 +3,7 @@ ghost use mathlib.Core.List.{_∷_, []};
 ghost use Rattle.text.specs.Page.{Wrote};
 ghost use Rattle.text.specs.Ascii.{ascii};
 ghost use Rattle.text.specs.Digits.{decimalOf};
-ghost use Rattle.lines.specs.Lines.{behind, marked, maybeTime, maybeIdentity, exchangeText, peerText, slaveTexts, idsText, endLine};
+ghost use Rattle.lines.specs.Lines.{following, marked, maybeTime, maybeIdentity, exchangeText, peerText, slaveTexts, idsText, endLine};
 use crate::values;
 use record::Exchange;
 use record::Ids;
@@ -38,7 +38,7 @@ fn open_peer(out: &mut [u8], at: usize, id: u16, who: MaybeIdentity) -> usize
 }
 
 fn two_times(out: &mut [u8], at: usize, a: MaybeTime, b: MaybeTime) -> usize
-    ensures { λ r. ⌜ Wrote (now (out .entry)) at (behind 58 (maybeTime a ∷ maybeTime b ∷ [])) (now (out .exit)) r ⌝ }
+    ensures { λ r. ⌜ Wrote (now (out .entry)) at (following 58 (maybeTime a ∷ maybeTime b ∷ [])) (now (out .exit)) r ⌝ }
 {
     let next = values::marked_time(out, at, b':', a);
     values::marked_time(out, next, b':', b)
@@ -72,7 +72,7 @@ fn peer(out: &mut [u8], at: usize, x: PeerState) -> usize
 
 // The master, both exchanges and the raw offset, each behind a space.
 fn slave(out: &mut [u8], at: usize, s: SlaveState) -> usize
-    ensures { λ r. ⌜ Wrote (now (out .entry)) at (behind 32 (slaveTexts (PortState.Slave s))) (now (out .exit)) r ⌝ }
+    ensures { λ r. ⌜ Wrote (now (out .entry)) at (following 32 (slaveTexts (PortState.Slave s))) (now (out .exit)) r ⌝ }
 {
     let master = s.master;
     let sync = s.sync;
@@ -88,7 +88,7 @@ fn slave(out: &mut [u8], at: usize, s: SlaveState) -> usize
 }
 
 fn state(out: &mut [u8], at: usize, state: PortState) -> usize
-    ensures { λ r. ⌜ Wrote (now (out .entry)) at (behind 32 (slaveTexts state)) (now (out .exit)) r ⌝ }
+    ensures { λ r. ⌜ Wrote (now (out .entry)) at (following 32 (slaveTexts state)) (now (out .exit)) r ⌝ }
 {
     match state {
         PortState::Listening => text::copy(out, at, b" - - - -"),

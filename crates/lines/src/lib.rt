@@ -5,7 +5,7 @@ ghost use Rattle.record.specs.Answers.{numberOf};
 ghost use Rattle.text.specs.Page.{Wrote};
 ghost use Rattle.text.specs.Digits.{decimalOf};
 ghost use Rattle.port.specs.ToldLaws.{firstActions};
-ghost use Rattle.lines.specs.Lines.{behind, marked, maybeDuration, sentText, resetText, traceTexts, lineFor, badLine, lastLine};
+ghost use Rattle.lines.specs.Lines.{following, marked, maybeDuration, sentText, resetText, traceTexts, lineFor, badLine, lastLine};
 
 mod actions;
 mod ending;
@@ -68,7 +68,7 @@ fn reset_text(out: &mut [u8], at: usize, reset: bool) -> usize
 
 // Event time, offset, delay, the packet, the actions, the reset.
 fn details(out: &mut [u8], at: usize, shown: Shown, answer: Answer, sent: &[u8]) -> usize
-    ensures { λ r. ⌜ Wrote (now (out .entry)) at (behind 32 (traceTexts shown (now (sent .entry)) (firstActions (answer .count) (answer .actions)) (answer .reset))) (now (out .exit)) r ⌝ }
+    ensures { λ r. ⌜ Wrote (now (out .entry)) at (following 32 (traceTexts shown (now (sent .entry)) (firstActions (answer .count) (answer .actions)) (answer .reset))) (now (out .exit)) r ⌝ }
 {
     let time = shown.time;
     let offset = shown.offset;

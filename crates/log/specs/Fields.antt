@@ -39,9 +39,9 @@ innerOf f at tag =
     Inner.No
 
 -- a field that has to be there
-abbrev pub needs : Inner → (ℕ → ℕ → Found) → Found
-needs Inner.No k = Found.No
-needs (Inner.At a n) k = k a n
+abbrev pub needed : Inner → (ℕ → ℕ → Found) → Found
+needed Inner.No k = Found.No
+needed (Inner.At a n) k = k a n
 
 -- the same, of so many bytes
 abbrev pub exactly : Inner → ℕ → (ℕ → Found) → Found
@@ -102,18 +102,18 @@ stateFound (MaybeState.Some s) = Found.Some (Logged.SetState s)
 unfoldable pub eventOf : List ℕ → Found
 eventOf f =
     exactly (innerOf f 3 1) 16 (λ a.
-    needs (innerOf f (a + 16) 2) (λ b n. cond (leb n 1024) (ends f (b + n) (Logged.Event (timeAt a f) b n)) Found.No))
+    needed (innerOf f (a + 16) 2) (λ b n. cond (leb n 1024) (ends f (b + n) (Logged.Event (timeAt a f) b n)) Found.No))
 
 -- 0x11: message
 unfoldable pub generalOf : List ℕ → Found
 generalOf f =
-    needs (innerOf f 3 2) (λ b n. cond (leb n 1024) (ends f (b + n) (Logged.General b n)) Found.No)
+    needed (innerOf f 3 2) (λ b n. cond (leb n 1024) (ends f (b + n) (Logged.General b n)) Found.No)
 
 -- 0x12: time, context
 unfoldable pub stampOf : List ℕ → Found
 stampOf f =
     exactly (innerOf f 3 1) 16 (λ a.
-    needs (innerOf f (a + 16) 3) (λ b n. cond (eqb (b + n) (length f)) (stampFound (timeAt a f) (contextAt b n f)) Found.No))
+    needed (innerOf f (a + 16) 3) (λ b n. cond (eqb (b + n) (length f)) (stampFound (timeAt a f) (contextAt b n f)) Found.No))
 
 -- 0x13: nothing
 unfoldable pub syncTimerOf : List ℕ → Found
@@ -137,7 +137,7 @@ filterOf f =
 -- 0x16: state
 unfoldable pub setStateOf : List ℕ → Found
 setStateOf f =
-    needs (innerOf f 3 7) (λ b n. cond (eqb (b + n) (length f)) (stateFound (stateAt b n f)) Found.No)
+    needed (innerOf f 3 7) (λ b n. cond (eqb (b + n) (length f)) (stateFound (stateAt b n f)) Found.No)
 
 -- ---- the configuration
 

@@ -16,7 +16,7 @@ use Rattle.log.specs.declared.Logged.{Logged}
 use Rattle.log.specs.declared.Inner.{Inner}
 use Rattle.log.specs.declared.Found.{Found}
 use Rattle.log.specs.declared.Next.{Next}
-use Rattle.log.specs.Fields.{innerOf, needs, exactly, perhaps, ends, contextAt, stateAt, stampFound, stateFound, eventOf, generalOf, stampOf, syncTimerOf, delayTimerOf, updateOf}
+use Rattle.log.specs.Fields.{innerOf, needed, exactly, perhaps, ends, contextAt, stateAt, stampFound, stateFound, eventOf, generalOf, stampOf, syncTimerOf, delayTimerOf, updateOf}
 use Rattle.log.specs.Fields.{filterOf, setStateOf, configOf, fieldOf, statedOf, possible, seen, noneOf, cutOf, frontOf}
 
 -- ---- inner fields
@@ -93,7 +93,7 @@ no-cond : (b : Bool) (x : Found) → (b ≡ true → x ≡ Found.No) → cond b 
 no-cond true x h = h refl
 no-cond false x h = refl
 
-no-needs : (r : Inner) (k : ℕ → ℕ → Found) → ((a n : ℕ) → r ≡ Inner.At a n → k a n ≡ Found.No) → needs r k ≡ Found.No
+no-needs : (r : Inner) (k : ℕ → ℕ → Found) → ((a n : ℕ) → r ≡ Inner.At a n → k a n ≡ Found.No) → needed r k ≡ Found.No
 no-needs Inner.No k h = refl
 no-needs (Inner.At a n) k h = h a n refl
 

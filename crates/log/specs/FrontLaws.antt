@@ -19,7 +19,7 @@ use Rattle.log.specs.declared.Found.{Found}
 use Rattle.log.specs.declared.Next.{Next}
 use Rattle.log.specs.declared.MaybeContext.{MaybeContext}
 use Rattle.log.specs.declared.MaybeState.{MaybeState}
-use Rattle.log.specs.Fields.{timeAt, durationAt, innerOf, needs, exactly, perhaps, ends, contextAt, stateAt, stampFound, stateFound, eventOf, generalOf, stampOf, syncTimerOf}
+use Rattle.log.specs.Fields.{timeAt, durationAt, innerOf, needed, exactly, perhaps, ends, contextAt, stateAt, stampFound, stateFound, eventOf, generalOf, stampOf, syncTimerOf}
 use Rattle.log.specs.Fields.{delayTimerOf, updateOf, filterOf, setStateOf, configWith, configOf, fieldOf, statedOf, possible, seen, noneOf, cutOf, frontOf}
 use Rattle.log.specs.FieldsLaws.{front-cut, front-whole, impossible, impossible-grows, possible-small}
 
@@ -46,7 +46,7 @@ module _ (m : ℕ) where
   held-cond true x y h g = h refl
   held-cond false x y h g = g
 
-  held-needs : (r : Inner) (k : ℕ → ℕ → Found) → ((a n : ℕ) → Held false m (k a n)) → Held false m (needs r k)
+  held-needs : (r : Inner) (k : ℕ → ℕ → Found) → ((a n : ℕ) → Held false m (k a n)) → Held false m (needed r k)
   held-needs Inner.No k h = tt
   held-needs (Inner.At a n) k h = h a n
 

@@ -30,7 +30,7 @@ unfoldable pub recordAfter : Port → List Event → Port
 recordAfter p [] = p
 recordAfter p (e ∷ es) = recordAfter (answerTo p e .port) es
 
--- a replay starts Listening with nothing stored and ids 0 (`portOf`)
+-- from a fresh port (`portOf`): Listening, nothing stored, first ids
 unfoldable pub replayOf : Log → List Result
 replayOf l = from (l .configuration)
   where
@@ -44,7 +44,7 @@ unfoldable pub numbered : Style → ℕ → List Result → List ℕ
 numbered style n [] = []
 numbered style n (r ∷ rs) = lineOf style (n % 2 ^ 64) r ++ numbered style (n + 1) rs
 
--- `bad at ` and the outer field's offset; or what a good log ends with
+-- the line at a bad field, or what a good log ends with
 unfoldable pub lastOf : Style → Port → Ending → List ℕ
 lastOf style p end = lastLine style p
 lastOf style p (badAt offset) = badLine (offset % 2 ^ 64)

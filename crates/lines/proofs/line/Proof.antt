@@ -7,7 +7,7 @@ use Rattle.text.specs.PageLaws.{wrote-then, wrote-as, wrote-same}
 use Rattle.text.specs.Digits.{decimalOf}
 use Rattle.lines.specs.declared.Style.{Style}
 use Rattle.lines.specs.declared.Shown.{Shown}
-use Rattle.lines.specs.Lines.{behind, marked, maybeDuration, shownOf, traceTexts, lineWith, lineFor}
+use Rattle.lines.specs.Lines.{following, marked, maybeDuration, shownOf, traceTexts, lineWith, lineFor}
 use Rattle.lines.proofs.Texts.{marked-append}
 use Rattle.lines.proofs.line.Statement.{statement}
 use Rattle.lines.proofs.line.Tie as tie
@@ -54,7 +54,7 @@ returns-2 c =
     (marked-append 32 (decimalOf (a .number)) (decimalOf (numberOf (a .answer .outcome)) ∷ (m .letter ∷ []) ∷ maybeDuration (m .value) ∷ [])
     (traceTexts m (a .sent .now) (firstActions (a .answer .count) (a .answer .actions)) (a .answer .reset)))
     (wrote-then (wrote-as (ap (λ (s : Shown). marked 32 (decimalOf (a .number)) (decimalOf (numberOf (a .answer .outcome)) ∷ (s .letter ∷ []) ∷ maybeDuration (s .value) ∷ [])) (c .before .before .before .before .before .before .before .before .before .before .before .before .before .before .shown .ensures)) (c .before .before .before .before .before .before .before .before .before .before .before .before .heading .ensures))
-    (wrote-as (ap (λ (s : Shown). behind 32 (traceTexts s (a .sent .now) (firstActions (a .answer .count) (a .answer .actions)) (a .answer .reset))) (c .before .before .before .before .before .before .before .before .before .before .before .before .before .before .shown .ensures)) (c .before .before .before .before .before .before .details .ensures))))
+    (wrote-as (ap (λ (s : Shown). following 32 (traceTexts s (a .sent .now) (firstActions (a .answer .count) (a .answer .actions)) (a .answer .reset))) (c .before .before .before .before .before .before .before .before .before .before .before .before .before .before .shown .ensures)) (c .before .before .before .before .before .before .details .ensures))))
     (c .before .before .put2 .ensures))
 
 same-length-2 : tie.Need-same-length-2

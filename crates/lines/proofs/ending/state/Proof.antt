@@ -2,7 +2,7 @@ use mathlib.Core.Path.{ap, sym}
 use borrow.Author.Needs.{needs}
 use Rattle.record.specs.declared.PortState.{PortState}
 use Rattle.text.specs.PageLaws.{wrote-as, wrote-same}
-use Rattle.lines.specs.Lines.{behind, slaveTexts}
+use Rattle.lines.specs.Lines.{following, slaveTexts}
 use Rattle.lines.proofs.ending.state.Statement.{statement}
 use Rattle.lines.proofs.ending.state.Tie as tie
 
@@ -51,7 +51,7 @@ slave-requires c κs = tt
 returns : tie.Need-returns
 unfolding slaveTexts
 returns c =
-    wrote-as (ap (λ (s : PortState). behind 32 (slaveTexts s)) (sym (c .before .before .before .before .before .enum-told .given .1)))
+    wrote-as (ap (λ (s : PortState). following 32 (slaveTexts s)) (sym (c .before .before .before .before .before .enum-told .given .1)))
     (c .before .before .copy .ensures)
 
 same-length : tie.Need-same-length
@@ -60,7 +60,7 @@ same-length c = wrote-same (returns c)
 returns-2 : tie.Need-returns-2
 unfolding slaveTexts
 returns-2 c =
-    wrote-as (ap (λ (s : PortState). behind 32 (slaveTexts s)) (sym (c .before .before .before .before .before .enum-told2 .given .1)))
+    wrote-as (ap (λ (s : PortState). following 32 (slaveTexts s)) (sym (c .before .before .before .before .before .enum-told2 .given .1)))
     (c .before .before .copy2 .ensures)
 
 same-length-2 : tie.Need-same-length-2
@@ -69,7 +69,7 @@ same-length-2 c = wrote-same (returns-2 c)
 returns-3 : tie.Need-returns-3
 unfolding slaveTexts
 returns-3 c =
-    wrote-as (ap (λ (s : PortState). behind 32 (slaveTexts s)) (sym (c .before .before .before .before .before .enum-told3 .given .1)))
+    wrote-as (ap (λ (s : PortState). following 32 (slaveTexts s)) (sym (c .before .before .before .before .before .enum-told3 .given .1)))
     (c .before .before .copy3 .ensures)
 
 same-length-3 : tie.Need-same-length-3
@@ -78,7 +78,7 @@ same-length-3 c = wrote-same (returns-3 c)
 returns-4 : tie.Need-returns-4
 unfolding slaveTexts
 returns-4 c =
-    wrote-as (ap (λ (s : PortState). behind 32 (slaveTexts s)) (sym (c .before .before .before .before .before .enum-told4 .given .1)))
+    wrote-as (ap (λ (s : PortState). following 32 (slaveTexts s)) (sym (c .before .before .before .before .before .enum-told4 .given .1)))
     (c .before .before .copy4 .ensures)
 
 same-length-4 : tie.Need-same-length-4
@@ -86,7 +86,7 @@ same-length-4 c = wrote-same (returns-4 c)
 
 returns-5 : tie.Need-returns-5
 returns-5 c =
-    wrote-as (ap (λ (s : PortState). behind 32 (slaveTexts s)) (sym (c .before .before .before .before .before .state .given .1)))
+    wrote-as (ap (λ (s : PortState). following 32 (slaveTexts s)) (sym (c .before .before .before .before .before .state .given .1)))
     (c .before .before .slave .ensures)
 
 same-length-5 : tie.Need-same-length-5
