@@ -1,4 +1,4 @@
--- Document 01, end of 'Event log': the line that a replay writes of an event, and the line at a bad field. Beside them the lines of `trace`, which show all of an answer and, at the end, of the record. Text is a list of ASCII numbers.
+-- Document 01, end of 'Event log': the line that a replay writes of an event, and the line at a bad field. Beside them the lines of `trace`, which show all of an answer and, at the end, of the record. Text is a list of ASCII numbers; single ones are 10 the newline, 32 the space, 44 the comma, 45 the dash, 58 the colon, 68 D, 80 P, 83 S.
 use Prim.Native.Nat.{ℕ}
 use mathlib.Core.Bool.{Bool, true, false}
 use mathlib.Core.List.{List, [], _∷_, _++_}

@@ -4,7 +4,7 @@
 ghost use mathlib.Core.Path.{_≡_};
 ghost use Prim.Native.Nat.{_-_, _≤_, _<_};
 ghost use lib.ListN.{length, take, drop};
-ghost use Rattle.playing.specs.Between.{Sound};
+ghost use Rattle.playing.specs.Between.{Sound, Kept};
 use libc::STDIN_FILENO;
 use libc::STDOUT_FILENO;
 use lines::Style;
@@ -49,6 +49,7 @@ fn fill(fd: i32, name: &[u8], w: &mut [u8], f: Flow) -> Flow
     requires { ⌜ Sound f (length (now w)) ⌝ }
     requires { ⌜ f .have - f .start < length (now w) ⌝ }
     ensures { λ r. ⌜ Sound r (length (now (w .entry))) ⌝ }
+    ensures { λ r. ⌜ Kept f (now (w .entry)) r (now (w .exit)) ⌝ }
 {
     let start = f.start;
     let have = f.have;
