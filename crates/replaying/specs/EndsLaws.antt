@@ -1,30 +1,23 @@
 -- A session comes to an end: each turn reads a field, wants a piece, or is done.
-use Prim.Native.Nat.{ℕ, zero, suc, _+_, _-_, _≤_, _<_}
-use mathlib.Core.Path.{_≡_, refl, sym, _∙_, ap, subst}
+use Prim.Native.Nat.{ℕ, suc, _+_, _-_, _≤_, _<_}
+use mathlib.Core.Path.{_≡_, refl, _∙_, ap}
 use mathlib.Core.Bool.{Bool, true, false, cond}
 use mathlib.Core.List.{List, [], _∷_, _++_}
-use mathlib.Core.Option.{Option, none, some}
+use mathlib.Core.Option.{Option, some}
 use native.Mathlib.Omega.{arith}
-use borrow.Author.Tests.{ltb-true, ltb-false}
-use lib.Dec.{ltb}
 use lib.ListN.{length, take, drop, length-drop, length-append}
-use Rattle.rules.specs.Events.{Event}
 use Rattle.wire.specs.BytesLaws.{apart}
-use Rattle.log.specs.declared.Next.{Next}
-use Rattle.log.specs.Fields.{frontOf}
-use Rattle.log.specs.Log.{Fields, scan, told, onward}
+use Rattle.log.specs.Log.{told}
 use Rattle.log.specs.Streaming.{joined}
-use Rattle.log.specs.FrontLaws.{Front, front}
-use Rattle.log.specs.StreamingLaws.{scan-is}
+use Rattle.log.specs.StreamingLaws.{more-open}
 use Rattle.lines.specs.declared.Style.{Style}
 use Rattle.lines.specs.Lines.{lineOf}
 use Rattle.replaying.specs.declared.State.{State}
 use Rattle.replaying.specs.declared.Stop.{Stop}
-use Rattle.replaying.specs.Replay.{answerTo, replayLines}
-use Rattle.replaying.specs.Turns.{lineRoom, opened, moved, Run, stopped, after, runOf, runOver}
+use Rattle.replaying.specs.Replay.{answerTo}
+use Rattle.replaying.specs.Turns.{lineRoom, Run, stopped, after, runOver}
 use Rattle.replaying.specs.Sessions.{startOf, ahead, goesOn, session, Roomy, turnsFor, WritesAll}
-use Rattle.replaying.specs.OneLaws.{run-starts, run-next, run-good, run-bad, run-rest}
-use Rattle.replaying.specs.TurnLaws.{full-run}
+use Rattle.replaying.specs.RunLaws.{Steps, every}
 use Rattle.replaying.specs.SessionLaws.{session-writes}
 
 -- ---- what a turn comes to
@@ -48,39 +41,21 @@ module _ (style : Style) (last : Bool) where
   halted s room w q =
       record { within = omega arith; reads = λ e. absurd (apart (cc e)); wants = λ e. absurd (apart (cc e)) }
 
-  by-front : (q : State) (room a : ℕ) (s : List ℕ) → lineRoom ≤ room
-      → ((k : ℕ) → 3 ≤ k → k ≤ length s → (p : State) (r b : ℕ) → Turns (drop k s) r (runOf style p r (scan last (p .first) b (drop k s))))
-      → (y : Next) → Front (q .first) s last y → Turns s room (runOf style q room (onward y a (q .first) s (λ k. scan last false (a + k) (drop k s))))
-  by-front q room a s h go (Next.Config c) (_, fits) =
-      subst (Turns s room) (sym (run-starts style q room h c 36 (scan last false (a + 36) (drop 36 s))))
-      (further s room room 36 [] (runOf style (opened q c 36) room (scan last false (a + 36) (drop 36 s))) (omega arith) fits (go 36 (omega arith) fits (opened q c 36) room (a + 36)))
-  by-front q room a s h go (Next.Event e k) (_, (three, fits)) =
-      let v : Event = told (take k s) e in
-      let w : List ℕ = lineOf style (q .number) (answerTo (q .port) v) in
-      subst (Turns s room) (sym (run-next style q room h v k (scan last false (a + k) (drop k s))))
-      (further s room (room - length w) k w (runOf style (moved q (answerTo (q .port) v .port) k) (room - length w) (scan last false (a + k) (drop k s))) three fits
-      (go k three fits (moved q (answerTo (q .port) v .port) k) (room - length w) (a + k)))
-  by-front q room a s h go Next.More (open′, _) =
-      subst (Turns s room) (sym (run-rest style q room h a (q .first) s))
-      (record { within = omega arith; reads = λ e. absurd (apart (cc e)); wants = λ _. open′ })
-  by-front q room a s h go Next.End f = subst (Turns s room) (sym (run-good style q room h)) (halted s room _ q)
-  by-front q room a s h go Next.Bad f = subst (Turns s room) (sym (run-bad style q room h a)) (halted s room _ q)
-
-  turns-by : (fuel : ℕ) (q : State) (room a : ℕ) (s : List ℕ) → length s < fuel → Turns s room (runOf style q room (scan last (q .first) a s))
-  turns-by zero q room a s f = absurd (omega (arith, f))
-  turns-by (suc fuel) q room a s f =
-      by-room (ltb room 1024) refl
-      (λ h. by-front q room a s h (λ k three fits p r b. turns-by fuel p r b (drop k s) (omega (arith, length-drop k s, three, fits, f))) (frontOf (q .first) s last) (front (q .first) s last))
-    where
-      by-room : (b : Bool) → ltb room 1024 ≡ b → (lineRoom ≤ room → Turns s room (runOf style q room (onward (frontOf (q .first) s last) a (q .first) s (λ k. scan last false (a + k) (drop k s))))) → Turns s room (runOf style q room (scan last (q .first) a s))
-      by-room true e k =
-          subst (Turns s room) (sym (full-run style q room (scan last (q .first) a s) (ltb-true room 1024 e)))
-          (record { within = omega arith; reads = λ _ h. absurd (omega (arith, h, ltb-true room 1024 e)); wants = λ e. absurd (apart (cc e)) })
-      by-room false e k =
-          subst (λ (l : Fields). Turns s room (runOf style q room l)) (sym (scan-is last (q .first) a s)) (k (ltb-false room 1024 e))
+  turn-steps : Steps style last (λ q room s x. Turns s room x)
+  turn-steps =
+      record {
+        full = λ q room s h. record { within = omega arith; reads = λ _ g. absurd (omega (arith, h, g)); wants = λ e. absurd (apart (cc e)) };
+        config = λ q room s c e fits x t. further s room room 36 [] x (omega arith) fits t;
+        event = λ q room s e k f three fits x t.
+            let w : List ℕ = lineOf style (q .number) (answerTo (q .port) (told (take k s) e)) in
+            further s room (room - length w) k w x three fits t;
+        more = λ q room s e. record { within = omega arith; reads = λ p. absurd (apart (cc p)); wants = λ _. more-open (q .first) s last e };
+        good-end = λ q room s e. halted s room _ q;
+        bad-end = λ q room s e. halted s room _ q;
+      }
 
   turns : (q : State) (room : ℕ) (s : List ℕ) → Turns s room (runOver style q s last room)
-  turns q room s = turns-by (suc (length s)) q room (q .offset) s (omega arith)
+  turns q room s = every style last (λ q room s x. Turns s room x) turn-steps q room (q .offset) s
 
 -- ---- enough of them
 

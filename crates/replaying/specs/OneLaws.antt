@@ -24,7 +24,7 @@ use Rattle.log.specs.Log.{Fields, starts, next, good, bad, rest, scan, told, on
 use Rattle.log.specs.FrontLaws.{Placed}
 use Rattle.log.specs.StreamingLaws.{scan-at, front-fits, front-placed, front-config-fits, more-small}
 use Rattle.lines.specs.declared.Style.{Style}
-use Rattle.lines.specs.Lines.{lineWith, lineOf, lineFor, badLine, lastLine}
+use Rattle.lines.specs.Lines.{lineOf, lineFor, badLine, lastLine}
 use Rattle.lines.specs.LinesLaws.{line-short, bad-short, last-short}
 use Rattle.text.specs.Page.{Wrote}
 use Rattle.text.specs.PageLaws.{wrote-nothing, wrote-as}
@@ -32,7 +32,7 @@ use Rattle.replaying.specs.declared.State.{State}
 use Rattle.replaying.specs.declared.Stop.{Stop}
 use Rattle.replaying.specs.declared.one.Went.{Went}
 use Rattle.replaying.specs.Replay.{answerTo}
-use Rattle.replaying.specs.Turns.{lineRoom, opened, moved, Run, stopped, after, runOf}
+use Rattle.replaying.specs.Turns.{lineRoom, opened, moved, stopped, after, runOf}
 
 -- ---- a run's next field, where a line has room
 

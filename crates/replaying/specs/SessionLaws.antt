@@ -1,13 +1,11 @@
 -- Turns put together: what a session has written when it ends is what the whole log writes.
-use Prim.Native.Nat.{ℕ, zero, suc, _+_, _-_, _%_, _^_, _≤_, _<_}
+use Prim.Native.Nat.{ℕ, _+_, _-_, _%_, _^_, _≤_}
 use mathlib.Core.Path.{_≡_, refl, sym, _∙_, ap, subst}
 use mathlib.Core.Bool.{Bool, true, false}
 use mathlib.Core.List.{List, [], _∷_, _++_, append-assoc, append-nil}
 use mathlib.Core.Option.{Option, none, some}
 use native.Mathlib.Omega.{arith}
 use native.Mathlib.Nat.{add-zero, add-assoc, mod-add-mod}
-use borrow.Author.Tests.{ltb-true, ltb-false, le-ltb}
-use lib.Dec.{ltb}
 use lib.ListN.{length, take, drop, length-drop}
 use lib.Seq.{drop-drop, drop-append-le, take-append-le}
 use Rattle.record.specs.declared.Config.{Config}
@@ -16,20 +14,19 @@ use Rattle.rules.specs.Events.{Event}
 use Rattle.wire.specs.BytesLaws.{apart}
 use Rattle.log.specs.declared.Next.{Next}
 use Rattle.log.specs.Fields.{frontOf}
-use Rattle.log.specs.Log.{Fields, starts, next, good, bad, rest, scan, told, onward}
+use Rattle.log.specs.Log.{next, scan, told}
 use Rattle.log.specs.Streaming.{joined}
-use Rattle.log.specs.FrontLaws.{Front, front, Steady, steady}
-use Rattle.log.specs.StreamingLaws.{scan-is, scan-at}
+use Rattle.log.specs.FrontLaws.{Steady, steady}
+use Rattle.log.specs.StreamingLaws.{scan-at}
 use Rattle.lines.specs.declared.Style.{Style}
 use Rattle.lines.specs.Lines.{lineOf, badLine, lastLine}
 use Rattle.replaying.specs.declared.State.{State}
 use Rattle.replaying.specs.declared.Stop.{Stop}
-use Rattle.replaying.specs.Replay.{answerTo, replayLines}
-use Rattle.replaying.specs.Turns.{lineRoom, opened, moved, Run, stopped, after, runOf, runOver}
+use Rattle.replaying.specs.Replay.{answerTo}
+use Rattle.replaying.specs.Turns.{opened, moved, Run, stopped, after, runOver}
 use Rattle.replaying.specs.Sessions.{startOf, ahead, goesOn, session, WritesTheLines}
 use Rattle.replaying.specs.WritesLaws.{writes, writes-lines}
-use Rattle.replaying.specs.OneLaws.{run-starts, run-next, run-good, run-bad, run-rest}
-use Rattle.replaying.specs.TurnLaws.{full-run}
+use Rattle.replaying.specs.RunLaws.{Steps, every}
 
 -- ---- a state and the counts that it stands for
 
@@ -142,44 +139,26 @@ module _ (style : Style) (t : List ℕ) (last : Bool) (closed : last ≡ true �
   abbrev Good : State → ℕ → ℕ → List ℕ → Run → Type 0
   Good q n at s x = By (x .stop) q n at s x
 
-  abbrev Behind : List ℕ → ℕ → ℕ → Type 0
-  Behind s at k =
-      (p : State) (m room a : ℕ) → Tracks p m (at + k) → Good p m (at + k) (drop k s) (runOf style p room (scan last (p .first) a (drop k s)))
+  -- of every run over the window, from whatever counts its state stands for
+  abbrev Told : State → ℕ → List ℕ → Run → Type 0
+  Told q room s x = (n at : ℕ) → Tracks q n at → Good q n at s x
 
-  by-front : (q : State) (n at room a : ℕ) (s : List ℕ) → Tracks q n at → lineRoom ≤ room → ((k : ℕ) → 3 ≤ k → k ≤ length s → Behind s at k)
-      → (y : Next) → frontOf (q .first) s last ≡ y → Front (q .first) s last y → Good q n at s (runOf style q room (onward y a (q .first) s (λ k. scan last false (a + k) (drop k s))))
-  by-front q n at room a s g h go (Next.Config c) e (_, k) =
-      subst (Good q n at s) (sym (run-starts style q room h c 36 (scan last false (a + 36) (drop 36 s))))
-      (before q (opened q c 36) n n at 36 s [] (runOf style (opened q c 36) room (scan last false (a + 36) (drop 36 s))) k (starts-with q n at s c e k)
-      (go 36 (omega arith) k (opened q c 36) n room (a + 36) (tracks-opened q n at 36 c g)))
-  by-front q n at room a s g h go (Next.Event e k) x (_, (three, fits)) =
-      let v : Event = told (take k s) e in
-      let w : List ℕ = lineOf style (q .number) (answerTo (q .port) v) in
-      subst (Good q n at s) (sym (run-next style q room h v k (scan last false (a + k) (drop k s))))
-      (before q (moved q (answerTo (q .port) v .port) k) n (n + 1) at k s w (runOf style (moved q (answerTo (q .port) v .port) k) (room - length w) (scan last false (a + k) (drop k s))) fits (goes-on-with q n at s e k g x fits)
-      (go k three fits (moved q (answerTo (q .port) v .port) k) (n + 1) (room - length w) (a + k) (tracks-moved q n at k (answerTo (q .port) v .port) g)))
-  by-front q n at room a s g h go Next.More e f =
-      subst (Good q n at s) (sym (run-rest style q room h a (q .first) s)) (still q n at s Stop.More g)
-  by-front q n at room a s g h go Next.End e f =
-      subst (Good q n at s) (sym (run-good style q room h)) (good-end q n at s e)
-  by-front q n at room a s g h go Next.Bad e f =
-      subst (Good q n at s) (sym (run-bad style q room h a)) (bad-end q n at s g e)
-
-  window-by : (fuel : ℕ) (q : State) (n at room a : ℕ) (s : List ℕ) → length s < fuel → Tracks q n at → Good q n at s (runOf style q room (scan last (q .first) a s))
-  window-by zero q n at room a s f g = absurd (omega (arith, f))
-  window-by (suc fuel) q n at room a s f g =
-      by-room (ltb room 1024) refl
-      (λ h. by-front q n at room a s g h (λ k three fits p m r b t. window-by fuel p m (at + k) r b (drop k s) (omega (arith, length-drop k s, three, fits, f)) t)
-      (frontOf (q .first) s last) refl (front (q .first) s last))
-    where
-      by-room : (b : Bool) → ltb room 1024 ≡ b → (lineRoom ≤ room → Good q n at s (runOf style q room (onward (frontOf (q .first) s last) a (q .first) s (λ k. scan last false (a + k) (drop k s))))) → Good q n at s (runOf style q room (scan last (q .first) a s))
-      by-room true e k =
-          subst (Good q n at s) (sym (full-run style q room (scan last (q .first) a s) (ltb-true room 1024 e))) (still q n at s Stop.Full g)
-      by-room false e k =
-          subst (λ (l : Fields). Good q n at s (runOf style q room l)) (sym (scan-is last (q .first) a s)) (k (ltb-false room 1024 e))
+  told-steps : Steps style last Told
+  told-steps =
+      record {
+        full = λ q room s h n at g. still q n at s Stop.Full g;
+        config = λ q room s c e fits x go n at g.
+            before q (opened q c 36) n n at 36 s [] x fits (starts-with q n at s c e fits) (go n (at + 36) (tracks-opened q n at 36 c g));
+        event = λ q room s e k f three fits x go n at g.
+            before q (moved q (answerTo (q .port) (told (take k s) e) .port) k) n (n + 1) at k s (lineOf style (q .number) (answerTo (q .port) (told (take k s) e))) x fits (goes-on-with q n at s e k g f fits)
+            (go (n + 1) (at + k) (tracks-moved q n at k (answerTo (q .port) (told (take k s) e) .port) g));
+        more = λ q room s e n at g. still q n at s Stop.More g;
+        good-end = λ q room s e n at g. good-end q n at s e;
+        bad-end = λ q room s e n at g. bad-end q n at s g e;
+      }
 
   window : (q : State) (n at room : ℕ) (s : List ℕ) → Tracks q n at → Good q n at s (runOver style q s last room)
-  window q n at room s g = window-by (suc (length s)) q n at room (q .offset) s (omega arith) g
+  window q n at room s g = every style last Told told-steps q room (q .offset) s n at g
 
 -- ---- a session
 

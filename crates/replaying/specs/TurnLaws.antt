@@ -1,7 +1,7 @@
 -- A turn over a window, field by field: what holds between two fields, and what a turn promises once it stops.
 use Prim.Native.Nat.{ℕ, _+_, _-_, _≤_, _<_}
 use mathlib.Core.Path.{_≡_, refl, sym, _∙_, ap, subst}
-use mathlib.Core.Bool.{Bool, true}
+use mathlib.Core.Bool.{Bool}
 use mathlib.Core.List.{List, [], _++_, append-assoc, append-nil}
 use native.Mathlib.Omega.{arith}
 use native.Mathlib.Nat.{add-zero, sub-zero, zero-add, add-assoc}
@@ -16,7 +16,7 @@ use Rattle.replaying.specs.declared.Stop.{Stop}
 use Rattle.replaying.specs.declared.one.Went.{Went}
 use Rattle.wire.specs.BytesLaws.{apart}
 use Rattle.replaying.specs.Turns.{lineRoom, Run, stopped, after, runOf, Turned, Leaves}
-use Rattle.replaying.specs.OneLaws.{Passes, Halts, One}
+use Rattle.replaying.specs.OneLaws.{One}
 
 -- ---- runs put together
 

@@ -1,14 +1,13 @@
 -- A turn: the lines of a window of the log, as many as a buffer has room for.
 use Prim.Native.Nat.{ℕ, _+_, _-_, _%_, _^_, _≤_, _<_}
 use mathlib.Core.Path.{_≡_}
-use mathlib.Core.Bool.{Bool, true, false, cond}
-use mathlib.Core.List.{List, [], _∷_, _++_}
+use mathlib.Core.Bool.{Bool, false, cond}
+use mathlib.Core.List.{List, [], _++_}
 use lib.ListN.{length, drop}
 use lib.Dec.{ltb}
 use Rattle.record.specs.declared.Config.{Config}
 use Rattle.record.specs.declared.Port.{Port}
 use Rattle.record.specs.Record.{portOf}
-use Rattle.rules.specs.Events.{Result}
 use Rattle.log.specs.Log.{Fields, starts, next, good, bad, rest, scan}
 use Rattle.lines.specs.declared.Style.{Style}
 use Rattle.lines.specs.Lines.{lineOf, badLine, lastLine}

@@ -2,14 +2,14 @@
 use Prim.Native.Nat.{ℕ, zero, suc, _+_, _%_, _^_, _≤_, _<_}
 use mathlib.Core.Path.{_≡_, refl, sym, _∙_, ap, subst}
 use mathlib.Core.Bool.{Bool, true, false}
-use mathlib.Core.List.{List, [], _∷_, _++_, append-assoc}
+use mathlib.Core.List.{List, _++_, append-assoc}
 use native.Mathlib.Omega.{arith}
 use lib.ListN.{length, drop, length-drop}
 use Rattle.record.specs.declared.Port.{Port}
 use Rattle.record.specs.Record.{portOf}
 use Rattle.log.specs.declared.Next.{Next}
 use Rattle.log.specs.Fields.{frontOf}
-use Rattle.log.specs.Log.{Fields, starts, next, good, bad, rest, scan, told, onward, gathered, readLog}
+use Rattle.log.specs.Log.{Fields, starts, next, good, bad, rest, scan, onward, gathered, readLog}
 use Rattle.wire.specs.BytesLaws.{apart}
 use Rattle.log.specs.FrontLaws.{Front, front}
 use Rattle.log.specs.StreamingLaws.{scan-is}
