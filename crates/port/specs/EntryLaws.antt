@@ -11,7 +11,7 @@ use Rattle.record.specs.Answers.{answerOf, refusedWith}
 use Rattle.record.specs.Fit.{unfit}
 use Rattle.rules.specs.Names.{Message, Port, Outcome, MaybeMeasurement, Action}
 use Rattle.rules.specs.Worked.{Worked, worked, refused}
-use Rattle.rules.specs.Events.{Event, Done, Result, packet, refusal, answered}
+use Rattle.rules.specs.Events.{Event, Done, Result, packet, refusal, answered, bufferAfter}
 use Rattle.rules.specs.Table.{row1, row3}
 use Rattle.rules.specs.Step.{ruleOf, step}
 use Rattle.rules.specs.RefusalLaws.{step-rule}
@@ -22,7 +22,7 @@ use Rattle.handling.specs.Handling.{maybeMessage, handedOn, turnedDown, handled
 use Rattle.dispatch.specs.declared.gates.Gate.{Gate}
 use Rattle.dispatch.specs.Rows.{gateOf}
 use Rattle.dispatch.specs.RowLaws.{IsOpen, gate-open, gate-shut}
-use Rattle.port.specs.Entries.{answerFor, bufferAfter, Answers}
+use Rattle.port.specs.Entries.{answerFor, Answers}
 use Rattle.port.specs.Pieces.{Ready, answerSent, bufferSent}
 
 -- ---- what is told of a refusal, and of what is handed on and then sent

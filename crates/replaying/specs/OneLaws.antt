@@ -10,11 +10,12 @@ use lib.ListN.{length, take, drop, length-drop}
 use lib.Seq.{take-all, take-at, drop-drop, length-take-le}
 use Rattle.record.specs.declared.Config.{Config}
 use Rattle.record.specs.declared.Port.{Port}
-use Rattle.rules.specs.Events.{Event, Result}
+use Rattle.rules.specs.Events.{Event, Result, bufferAfter}
 use Rattle.rules.specs.ActionLaws.{actions-orderly}
 use Rattle.rules.specs.Step.{step}
-use Rattle.port.specs.Entries.{answerFor, bufferAfter, Answers}
-use Rattle.port.specs.ToldLaws.{TellsResult, answer-tells, sent-fits, buffer-length}
+use Rattle.port.specs.Entries.{answerFor, Answers}
+use Rattle.port.specs.ToldLaws.{TellsResult, answer-tells}
+use Rattle.rules.specs.BufferLaws.{sent-fits, buffer-length}
 use Rattle.record.specs.declared.Answer.{Answer}
 use Rattle.wire.specs.BytesLaws.{apart}
 use Rattle.log.specs.declared.Logged.{Logged}

@@ -1,9 +1,11 @@
 -- What the port is told, and what it answers.
 use Prim.Native.Nat.{ℕ}
+use mathlib.Core.Path.{_≡_}
 use mathlib.Core.Bool.{Bool, false}
 use mathlib.Core.List.{List, [], _∷_, _++_}
 use mathlib.Core.Option.{Option, none, some}
-use Rattle.rules.specs.Names.{Config, Reading, Time, Message, Port, Context, FilterUpdate, NewState, Outcome, MaybeMeasurement, Action}
+use lib.ListN.{length, drop}
+use Rattle.rules.specs.Names.{Config, Reading, Header, Body, Time, Message, Port, Context, FilterUpdate, NewState, Outcome, MaybeMeasurement, Action}
 use Rattle.wire.specs.Layout.{messageBytes}
 use Rattle.wire.specs.Reading.{readOf}
 use Rattle.rules.specs.Worked.{Worked, worked, refused}
@@ -21,6 +23,16 @@ pub data Event : Type 0 where
 -- how the port reads a message, on both entries
 abbrev pub reading : Config → List ℕ → Reading
 reading c message = readOf message
+
+-- bytes that an event brings, by either entry, and what they read as
+abbrev pub Brings : Config → Event → Header → Body → Time → Type 0
+Brings c (event at message) h b t = reading c message ≡ Reading.Message h b t
+Brings c (general message) h b t = reading c message ≡ Reading.Message h b t
+Brings c (stamp at context) h b t = ⊥
+Brings c syncTimer h b t = ⊥
+Brings c (delayTimer draw) h b t = ⊥
+Brings c (filterAnswer update) h b t = ⊥
+Brings c (setState new) h b t = ⊥
 
 -- what a rule gives: the record, perhaps a measurement, perhaps a message to send, actions in their order, and whether the filter is reset
 pub record Done : Type 0 where
@@ -46,6 +58,10 @@ packet (some m) = messageBytes (m .header) (m .body)
 -- a refusal: the record that was found, and nothing beside it
 abbrev pub refusal : Outcome → Port → Result
 refusal o p = record { outcome = o; port = p; measurement = MaybeMeasurement.None; sent = []; actions = []; reset = false }
+
+-- the buffer as it is left: the packet at the front, and behind it what lay there; where nothing is sent, and so with every refusal, all as it was
+unfoldable pub bufferAfter : Result → List ℕ → List ℕ
+bufferAfter r l = r .sent ++ drop (length (r .sent)) l
 
 abbrev pub answered : Port → Worked Done → Result
 answered p (worked d) =

@@ -12,7 +12,7 @@ use Rattle.record.specs.Record.{asSlave, withSlave, withSync, withDelay, withRa
 use Rattle.record.specs.SameLaws.{same-identity, identity-self}
 use Rattle.rules.specs.Names.{Time, Duration, Header, Body, MaybeTime, MaybeDuration, Mechanism, Exchange, SlaveState, PortState, Port, Context, Measurement, MaybeMeasurement}
 use Rattle.rules.specs.Worked.{Worked, worked, _then_, lessCorrection}
-use Rattle.rules.specs.Events.{Event, stamp, delayTimer, Done, Result, answered, nothing}
+use Rattle.rules.specs.Events.{Event, stamp, delayTimer, Done, Result, answered, nothing, Brings}
 use Rattle.rules.specs.Measuring.{settle}
 use Rattle.rules.specs.Exchanges.{Change, stays, becomes, atOnce, requested, delayAnswered, delayStamped}
 use Rattle.rules.specs.Rules.{keeping, delayIdTaken, delayResp, stamped, onEvent, onGeneral}
@@ -25,7 +25,7 @@ use Rattle.rules.specs.MeasureLaws.{delay-agrees}
 use Rattle.rules.specs.RefusalLaws.{taken-has}
 use Rattle.rules.specs.LinearLaws.{num, _⊕_, _⊖_, overZero, underZero, equal-sums}
 use Rattle.rules.specs.Ieee.{WireFields, Syncs, originTimestamp, syncMessage, followUpCorrection, offsetFromMaster, meanPathDelay}
-use Rattle.rules.specs.TakenLaws.{Brings, brought-rule, brought-time}
+use Rattle.rules.specs.TakenLaws.{brought-rule, brought-time}
 use Rattle.rules.specs.RunLaws.{Taken, BothOrders, Turns, turns, delayPart, less-worth, after-two}
 use Rattle.rules.specs.IeeeLaws.{IsWorth, MeasuresOffset, given-worth, wireFields}
 
@@ -43,7 +43,7 @@ module _ (p : Port) (s : SlaveState) (id : ℕ) where
       turns (delayPart p s) (worked t3) refl (λ P k. subst (All P) (sym (λ i. keeping (with-delay x) with-delay (cond (eq-eqb id id refl i) (becomes (Exchange.Measuring id (MaybeTime.Some t3) receive)) stays))) k)
 
   -- its DelayResp, by either entry
-  response-turns : (h : Header) → h .id ≡ id → s .master ≡ h .source → (e : Event) (w : WireTimestamp) (t : Time) → Brings e h (Body.DelayResp w (p .config .identity)) t → (send : MaybeTime) → Turns (delayPart p s) (Exchange.Measuring id send MaybeTime.None) e (time t -ℤ correction (h .correction)) (λ u. Exchange.Measuring id send (MaybeTime.Some u))
+  response-turns : (h : Header) → h .id ≡ id → s .master ≡ h .source → (e : Event) (w : WireTimestamp) (t : Time) → Brings (p .config) e h (Body.DelayResp w (p .config .identity)) t → (send : MaybeTime) → Turns (delayPart p s) (Exchange.Measuring id send MaybeTime.None) e (time t -ℤ correction (h .correction)) (λ u. Exchange.Measuring id send (MaybeTime.Some u))
   unfolding onEvent onGeneral delayResp delayAnswered
   response-turns h same-id from e w t brings send =
       let x : Exchange = Exchange.Measuring id send MaybeTime.None in
@@ -75,7 +75,7 @@ path-delay-of a m d t2 t3 =
 
 -- ---- the orders, from the exchange that a request leaves, on a Slave that keeps the raw offset of these messages
 
-module _ (p : Port) (s : SlaveState) (last : Duration) (keeps-raw : s .raw ≡ MaybeDuration.Some last) (m : Syncs) (t2 : ℤ) (raw-is : duration last ≡ offsetFromMaster (duration (p .config .asymmetry)) m t2 (pos 0)) (id : ℕ) (t3 : Time) (e : Event) (h : Header) (w : WireTimestamp) (t : Time) (brings : Brings e h (Body.DelayResp w (p .config .identity)) t) (same-id : h .id ≡ id) (from : s .master ≡ h .source) where
+module _ (p : Port) (s : SlaveState) (last : Duration) (keeps-raw : s .raw ≡ MaybeDuration.Some last) (m : Syncs) (t2 : ℤ) (raw-is : duration last ≡ offsetFromMaster (duration (p .config .asymmetry)) m t2 (pos 0)) (id : ℕ) (t3 : Time) (e : Event) (h : Header) (w : WireTimestamp) (t : Time) (brings : Brings (p .config) e h (Body.DelayResp w (p .config .identity)) t) (same-id : h .id ≡ id) (from : s .master ≡ h .source) where
   abbrev goal : Result → Type 0
   goal r = MeasuresPathDelay (duration (p .config .asymmetry)) m (wireFields h w) t2 (time t3) r
 
@@ -84,7 +84,7 @@ module _ (p : Port) (s : SlaveState) (last : Duration) (keeps-raw : s .raw ≡ M
   ends send receive sent came =
       let a : ℤ = duration (p .config .asymmetry) in
       let S : Done → Type 0 = λ d. goal (answered p (worked d)) in
-      let came-at : time receive ≡ wire w -ℤ correction (h .correction) = came ∙ ap (λ (z : ℤ). z -ℤ correction (h .correction)) (brought-time h (Body.DelayResp w (p .config .identity)) t e brings) in
+      let came-at : time receive ≡ wire w -ℤ correction (h .correction) = came ∙ ap (λ (z : ℤ). z -ℤ correction (h .correction)) (brought-time h (Body.DelayResp w (p .config .identity)) t (p .config) e brings) in
       agrees-all (numbersOf (withSlave p s) (Completed.delay (time send) (time receive))) S (delayPart p s .measure (atOnce id send receive)) (delay-agrees p s (atOnce id send receive) send receive S (λ raw delay i given.
       record {
         eventTime = send;
@@ -106,7 +106,7 @@ module _ (p : Port) (s : SlaveState) (last : Duration) (keeps-raw : s .raw ≡ M
 
 -- ---- the theorems: a delay timer on an end-to-end Slave takes the next id and opens its exchange; then these events
 
-module _ (p : Port) (s : SlaveState) (slave : p .state ≡ PortState.Slave s) (end-to-end : p .config .mechanism ≡ Mechanism.EndToEnd) (raw : Duration) (keeps-raw : s .raw ≡ MaybeDuration.Some raw) (m : Syncs) (t2 : ℤ) (raw-is : duration raw ≡ offsetFromMaster (duration (p .config .asymmetry)) m t2 (pos 0)) (draw room : ℕ) (k : Taken (step p room (delayTimer draw))) (t3 : Time) (e : Event) (h : Header) (w : WireTimestamp) (t : Time) (brings : Brings e h (Body.DelayResp w (p .config .identity)) t) (same-id : h .id ≡ p .ids .delay) (from : s .master ≡ h .source) where
+module _ (p : Port) (s : SlaveState) (slave : p .state ≡ PortState.Slave s) (end-to-end : p .config .mechanism ≡ Mechanism.EndToEnd) (raw : Duration) (keeps-raw : s .raw ≡ MaybeDuration.Some raw) (m : Syncs) (t2 : ℤ) (raw-is : duration raw ≡ offsetFromMaster (duration (p .config .asymmetry)) m t2 (pos 0)) (draw room : ℕ) (k : Taken (step p room (delayTimer draw))) (t3 : Time) (e : Event) (h : Header) (w : WireTimestamp) (t : Time) (brings : Brings (p .config) e h (Body.DelayResp w (p .config .identity)) t) (same-id : h .id ≡ p .ids .delay) (from : s .master ≡ h .source) where
   pub path-delay : BothOrders (step p room (delayTimer draw) .port) (stamp t3 (Context.DelayReq (p .ids .delay))) e (MeasuresPathDelay (duration (p .config .asymmetry)) m (wireFields h w) t2 (time t3))
   unfolding ruleOf
   path-delay =
@@ -120,7 +120,7 @@ module _ (p : Port) (s : SlaveState) (slave : p .state ≡ PortState.Slave s) (e
       (λ f ns. absurd (apart cc))) k
 
 -- after a Sync, one-step or two-step, that measured the offset of these messages (`IeeeLaws`)
-module _ (p : Port) (s : SlaveState) (r : Result) (m : Syncs) (t2 : ℤ) (synced : MeasuresOffset p s r m t2) (end-to-end : p .config .mechanism ≡ Mechanism.EndToEnd) (draw room : ℕ) (k : Taken (step (r .port) room (delayTimer draw))) (t3 : Time) (e : Event) (h : Header) (w : WireTimestamp) (t : Time) (brings : Brings e h (Body.DelayResp w (p .config .identity)) t) (same-id : h .id ≡ p .ids .delay) (from : s .master ≡ h .source) where
+module _ (p : Port) (s : SlaveState) (r : Result) (m : Syncs) (t2 : ℤ) (synced : MeasuresOffset p s r m t2) (end-to-end : p .config .mechanism ≡ Mechanism.EndToEnd) (draw room : ℕ) (k : Taken (step (r .port) room (delayTimer draw))) (t3 : Time) (e : Event) (h : Header) (w : WireTimestamp) (t : Time) (brings : Brings (p .config) e h (Body.DelayResp w (p .config .identity)) t) (same-id : h .id ≡ p .ids .delay) (from : s .master ≡ h .source) where
   pub path-delay-after-sync : BothOrders (step (r .port) room (delayTimer draw) .port) (stamp t3 (Context.DelayReq (p .ids .delay))) e (MeasuresPathDelay (duration (p .config .asymmetry)) m (wireFields h w) t2 (time t3))
   path-delay-after-sync =
       let kept-slave : SlaveState = withRaw (withSync s Exchange.Empty) (synced .raw) in

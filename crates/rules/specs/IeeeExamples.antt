@@ -112,11 +112,11 @@ link-delay-met =
 
 -- ---- both ends of a link: the request that one port sends at 1,000 ns comes to the other, whose answer is measured
 
-small : List ℕ → Bool
+unfoldable pub small : List ℕ → Bool
 small [] = true
 small (x ∷ xs) = ltb x 256 && small xs
 
-small-bytes : (l : List ℕ) → small l ≡ true → Bytes l
+pub small-bytes : (l : List ℕ) → small l ≡ true → Bytes l
 unfolding small
 small-bytes [] e i = lit< tt
 small-bytes (x ∷ xs) e zero = ltb-true x 256 (both (ltb x 256) (small xs) e .0)

@@ -14,7 +14,7 @@ use Rattle.record.specs.Record.{withSlave, withSync, withRaw}
 use Rattle.record.specs.SameLaws.{same-identity}
 use Rattle.rules.specs.Names.{Time, Duration, Header, Body, Reading, MaybeDuration, Exchange, SlaveState, PortState, Port, Outcome, Measurement, MaybeMeasurement}
 use Rattle.rules.specs.Worked.{worked, _then_, lessCorrection, plusCorrection}
-use Rattle.rules.specs.Events.{Event, event, Done, Result, answered, nothing}
+use Rattle.rules.specs.Events.{Event, event, Done, Result, answered, nothing, Brings}
 use Rattle.rules.specs.Exchanges.{becomes, received, sentAt, atOnce, synced, twoStepSync, oneStepSync, followedUp}
 use Rattle.rules.specs.Rules.{sync, followUp, keeping, onEvent, onGeneral}
 use Rattle.rules.specs.Step.{step}
@@ -25,7 +25,7 @@ use Rattle.rules.specs.AllLaws.{All}
 use Rattle.rules.specs.MeasureLaws.{sync-agrees}
 use Rattle.rules.specs.LinearLaws.{num, _⊕_, _⊖_, overZero, underZero, equal-sums}
 use Rattle.rules.specs.Ieee.{WireFields, Syncs, originTimestamp, syncMessage, followUpCorrection, offsetFromMaster}
-use Rattle.rules.specs.TakenLaws.{Brings, event-rule, brought-rule, wire-time, brought-time}
+use Rattle.rules.specs.TakenLaws.{event-rule, brought-rule, wire-time, brought-time}
 use Rattle.rules.specs.RunLaws.{BothOrders, Turns, turns, syncPart, less-worth, plus-worth, after-two}
 
 -- ---- what is measured: the raw offset is <offsetFromMaster> with no mean delay, and the offset that with the one that is stored
@@ -110,7 +110,7 @@ module _ (p : Port) (s : SlaveState) (h : Header) (t : Time) (from : s .master �
       event-rule h (Body.Sync w) t P (with-sync x) at message reads
       (subst (All P) (sym (λ i. cond (same-identity (s .master) (h .source) .1 from i) (lessCorrection at h then λ u. keeping (with-sync x) with-sync (made u i)) (nothing (with-sync x)))) k))
 
-  follow-up-turns : (e : Event) (w : WireTimestamp) → Brings e h (Body.FollowUp w) t → ((u : Time) → followedUp (h .id) u x ≡ becomes (new u)) → Turns (syncPart p s) x e (time t +ℤ correction (h .correction)) new
+  follow-up-turns : (e : Event) (w : WireTimestamp) → Brings (p .config) e h (Body.FollowUp w) t → ((u : Time) → followedUp (h .id) u x ≡ becomes (new u)) → Turns (syncPart p s) x e (time t +ℤ correction (h .correction)) new
   unfolding onEvent onGeneral followUp
   follow-up-turns e w brings made =
       let g : followUp (with-sync x) h t ≡ (plusCorrection t h then λ u. keeping (with-sync x) with-sync (becomes (new u))) = λ i. cond (same-identity (s .master) (h .source) .1 from i) (plusCorrection t h then λ u. keeping (with-sync x) with-sync (made u i)) (nothing (with-sync x)) in
@@ -134,7 +134,7 @@ module _ (p : Port) (s : SlaveState) (slave : p .state ≡ PortState.Slave s) (i
       (λ r. MeasuresOffset p s r m (time t2)) (λ u worth. measures p s (hs .id) ts u m (time t2) (wire-time hs (Body.Sync ws) ts message reads ∙ plus-zero (wire ws)) worth) room)
 
   -- a two-step Sync and its FollowUp, which comes by either entry
-  module _ (two : Layout.twoStep hs ≡ true) (e : Event) (hf : Header) (wf : WireTimestamp) (tf : Time) (brings : Brings e hf (Body.FollowUp wf) tf) (from-f : s .master ≡ hf .source) (same-id : hf .id ≡ hs .id) (room₁ room₂ : ℕ) where
+  module _ (two : Layout.twoStep hs ≡ true) (e : Event) (hf : Header) (wf : WireTimestamp) (tf : Time) (brings : Brings (p .config) e hf (Body.FollowUp wf) tf) (from-f : s .master ≡ hf .source) (same-id : hf .id ≡ hs .id) (room₁ room₂ : ℕ) where
     abbrev goal : Result → Type 0
     goal r = MeasuresOffset p s r (Syncs.twoStep (wireFields hs ws) (wireFields hf wf)) (time t2)
 
@@ -143,7 +143,7 @@ module _ (p : Port) (s : SlaveState) (slave : p .state ≡ PortState.Slave s) (i
     both-orders =
         let S : (x : Exchange) (new : Time → Exchange) → ((u : Time) → twoStepSync (hs .id) u x ≡ becomes (new u)) → Turns (syncPart p s) x (event t2 message) (time t2 -ℤ correction (hs .correction)) new = λ x new made. sync-turns p s hs ts from x new t2 message ws reads (λ u i. cond (two i) (made u i) (oneStepSync (hs .id) ts u x)) in
         let F : (x : Exchange) (new : Time → Exchange) → ((u : Time) → followedUp (hf .id) u x ≡ becomes (new u)) → Turns (syncPart p s) x e (time tf +ℤ correction (hf .correction)) new = λ x new made. follow-up-turns p s hf tf from-f x new e wf brings made in
-        let end : (id : ℕ) (u v : Time) → time u ≡ time tf +ℤ correction (hf .correction) → time v ≡ time t2 -ℤ correction (hs .correction) → All (λ d. goal (answered p (worked d))) (syncPart p s .measure (atOnce id u v)) = λ id u v eu ev. measures p s id u v (Syncs.twoStep (wireFields hs ws) (wireFields hf wf)) (time t2) (eu ∙ ap (λ (z : ℤ). z +ℤ correction (hf .correction)) (brought-time hf (Body.FollowUp wf) tf e brings)) ev in
+        let end : (id : ℕ) (u v : Time) → time u ≡ time tf +ℤ correction (hf .correction) → time v ≡ time t2 -ℤ correction (hs .correction) → All (λ d. goal (answered p (worked d))) (syncPart p s .measure (atOnce id u v)) = λ id u v eu ev. measures p s id u v (Syncs.twoStep (wireFields hs ws) (wireFields hf wf)) (time t2) (eu ∙ ap (λ (z : ℤ). z +ℤ correction (hf .correction)) (brought-time hf (Body.FollowUp wf) tf (p .config) e brings)) ev in
         subst (λ (q : Port). BothOrders q (event t2 message) e goal) empty
         record {
           ab = after-two (syncPart p s) goal (S Exchange.Empty (received (hs .id)) (λ t. refl))

@@ -13,7 +13,7 @@ use Rattle.wire.specs.BytesLaws.{apart}
 use Rattle.record.specs.Record.{withState, withPeer, withIds}
 use Rattle.rules.specs.Names.{Time, Duration, Identity, Header, Body, Reading, MaybeTime, MaybeIdentity, Mechanism, PeerState, Port, Context, Measurement, MaybeMeasurement}
 use Rattle.rules.specs.Worked.{worked}
-use Rattle.rules.specs.Events.{Event, event, stamp, delayTimer, Result, answered}
+use Rattle.rules.specs.Events.{Event, event, stamp, delayTimer, Result, answered, Brings}
 use Rattle.rules.specs.Measuring.{recovered, peerOut}
 use Rattle.rules.specs.Exchanges.{peerRequested}
 use Rattle.rules.specs.Rules.{peerIdTaken}
@@ -23,7 +23,7 @@ use Rattle.rules.specs.RuleLaws.{all-delayTimerEnds}
 use Rattle.rules.specs.RefusalLaws.{taken-has}
 use Rattle.rules.specs.LinearLaws.{num, _⊕_, _⊖_, equal-sums}
 use Rattle.rules.specs.Ieee.{WireFields, Pdelays, meanLinkDelay}
-use Rattle.rules.specs.TakenLaws.{Brings, wire-time, brought-time}
+use Rattle.rules.specs.TakenLaws.{wire-time, brought-time}
 use Rattle.rules.specs.RunLaws.{Taken, BothOrders, AllOrders, peerPart, after-two, after-three}
 use Rattle.rules.specs.IeeeLaws.{wireFields}
 use Rattle.rules.specs.PeerRunLaws.{stamp-turns, response-turns, follow-up-turns, complete-has}
@@ -107,12 +107,12 @@ module _ (p : Port) (id : ℕ) (t1 t4 : Time) (message : List ℕ) (hr : Header)
             (λ t u et eu. end u tr tr t refl eu came came et);
       }
 
-  module _ (e : Event) (hf : Header) (wf : WireTimestamp) (tf : Time) (brings : Brings e hf (Body.PDelayRespFollowUp wf requester) tf) (id-f : hf .id ≡ id) (one-source : hf .source ≡ hr .source) where
+  module _ (e : Event) (hf : Header) (wf : WireTimestamp) (tf : Time) (brings : Brings (p .config) e hf (Body.PDelayRespFollowUp wf requester) tf) (id-f : hf .id ≡ id) (one-source : hf .source ≡ hr .source) where
     abbrev two-goal : Result → Type 0
     two-goal r = MeasuresLinkDelay p id (hr .source) (Pdelays.twoStep (wireFields hr wr) (wireFields hf wf)) (time t1) (time t4) r
 
     left-at : (t : Time) → time t ≡ time tf +ℤ correction (hf .correction) → time t ≡ wire wf +ℤ correction (hf .correction)
-    left-at t g = g ∙ ap (λ (z : ℤ). z +ℤ correction (hf .correction)) (brought-time hf (Body.PDelayRespFollowUp wf requester) tf e brings)
+    left-at t g = g ∙ ap (λ (z : ℤ). z +ℤ correction (hf .correction)) (brought-time hf (Body.PDelayRespFollowUp wf requester) tf (p .config) e brings)
 
     two-step-orders : Layout.twoStep hr ≡ true → AllOrders (withPeer p (peerRequested id)) (stamp t1 (Context.PDelayReq id)) (event t4 message) e two-goal
     two-step-orders two =
@@ -155,7 +155,7 @@ module _ (p : Port) (peers : p .config .mechanism ≡ Mechanism.Peer) (draw room
         subst (λ (q : Port). BothOrders q (stamp t1 (Context.PDelayReq (p .ids .peer))) (event t4 message) (MeasuresLinkDelay (requesting p) (p .ids .peer) (hr .source) (Pdelays.oneStep (wireFields hr wr)) (time t1) (time t4))) (sym peer-requested)
         (one-step-orders (requesting p) (p .ids .peer) t1 t4 message hr wr (p .config .identity) tr reads id-r refl one)
 
-    pub two-step-link-delay : Layout.twoStep hr ≡ true → (e : Event) (hf : Header) (wf : WireTimestamp) (tf : Time) → Brings e hf (Body.PDelayRespFollowUp wf (p .config .identity)) tf → hf .id ≡ p .ids .peer → hf .source ≡ hr .source → AllOrders (step p room (delayTimer draw) .port) (stamp t1 (Context.PDelayReq (p .ids .peer))) (event t4 message) e (MeasuresLinkDelay (requesting p) (p .ids .peer) (hr .source) (Pdelays.twoStep (wireFields hr wr) (wireFields hf wf)) (time t1) (time t4))
+    pub two-step-link-delay : Layout.twoStep hr ≡ true → (e : Event) (hf : Header) (wf : WireTimestamp) (tf : Time) → Brings (p .config) e hf (Body.PDelayRespFollowUp wf (p .config .identity)) tf → hf .id ≡ p .ids .peer → hf .source ≡ hr .source → AllOrders (step p room (delayTimer draw) .port) (stamp t1 (Context.PDelayReq (p .ids .peer))) (event t4 message) e (MeasuresLinkDelay (requesting p) (p .ids .peer) (hr .source) (Pdelays.twoStep (wireFields hr wr) (wireFields hf wf)) (time t1) (time t4))
     two-step-link-delay two e hf wf tf brings id-f one-source =
         subst (λ (q : Port). AllOrders q (stamp t1 (Context.PDelayReq (p .ids .peer))) (event t4 message) e (MeasuresLinkDelay (requesting p) (p .ids .peer) (hr .source) (Pdelays.twoStep (wireFields hr wr) (wireFields hf wf)) (time t1) (time t4))) (sym peer-requested)
         (two-step-orders (requesting p) (p .ids .peer) t1 t4 message hr wr (p .config .identity) tr reads id-r refl e hf wf tf brings id-f one-source two)

@@ -1,4 +1,4 @@
--- To be believed: what stands above `Given`. What follows from it: the laws, the theorems and the examples.
+-- To be believed: what stands above `AllLaws`. What follows from it: the laws, the theorems and the examples.
 pub mod Names
 pub mod Worked
 pub mod Events
@@ -15,6 +15,11 @@ pub mod Sending
 pub mod Held
 pub mod Ieee
 pub mod Given
+pub mod Runs
+pub mod Times
+pub mod Whole
+pub mod Undisturbed
+pub mod Harmless
 pub mod AllLaws
 pub mod RuleLaws
 pub mod AgreeLaws
@@ -51,7 +56,28 @@ pub mod IeeePeerLaws
 pub mod IeeeDelayLaws
 pub mod ResponderLaws
 pub mod WritableLaws
+pub mod BufferLaws
+pub mod SideLaws
+pub mod FrameLaws
+pub mod GatherLaws
+pub mod PlainLaws
+pub mod StandingLaws
+pub mod TimesLaws
+pub mod LaneLaws
+pub mod OrderLaws
+pub mod ReadLaws
+pub mod SyncSideLaws
+pub mod RequestSideLaws
+pub mod DelaySideLaws
+pub mod PeerSideLaws
+pub mod BesideLaws
+pub mod UndisturbedLaws
+pub mod RequestIdLaws
 pub mod Running
 pub mod Examples
 pub mod ExamplesPeer
 pub mod IeeeExamples
+pub mod WovenExamples
+pub mod WovenPeerExamples
+pub mod HarmlessExamples
+pub mod OutsideExamples

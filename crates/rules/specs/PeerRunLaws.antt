@@ -13,7 +13,7 @@ use Rattle.record.specs.Record.{isFaulty, withPeer}
 use Rattle.record.specs.SameLaws.{same-identity}
 use Rattle.rules.specs.Names.{Time, Duration, Identity, Header, Body, Reading, MaybeTime, MaybeIdentity, PeerState, Port, Context, Measurement}
 use Rattle.rules.specs.Worked.{Worked, worked, _then_, lessCorrection, plusCorrection}
-use Rattle.rules.specs.Events.{Event, event, stamp, Done, Result, answered, nothing}
+use Rattle.rules.specs.Events.{Event, event, stamp, Done, Result, answered, nothing, Brings}
 use Rattle.rules.specs.Measuring.{settle, measured, peerOut}
 use Rattle.rules.specs.Exchanges.{Change, stays, becomes, another, peerStamped, secondResponder, responded, respondedLater}
 use Rattle.rules.specs.Rules.{keeping, becomesFaulty, peerAnswer, pDelayResp, pDelayRespFollowUp, stamped, onEvent, onGeneral}
@@ -22,7 +22,7 @@ use Rattle.rules.specs.WorkedOut.{Completed, peerTwice, numbersOf}
 use Rattle.rules.specs.AgreeLaws.{agrees-all, then-then}
 use Rattle.rules.specs.AllLaws.{All}
 use Rattle.rules.specs.MeasureLaws.{peer-agrees}
-use Rattle.rules.specs.TakenLaws.{Brings, event-rule, brought-rule}
+use Rattle.rules.specs.TakenLaws.{event-rule, brought-rule}
 use Rattle.rules.specs.RunLaws.{Turns, turns, peerPart, less-worth, plus-worth}
 
 -- no responder yet, or this one
@@ -30,7 +30,7 @@ abbrev pub OnlyBy : Identity → MaybeIdentity → Type 0
 OnlyBy source MaybeIdentity.None = Unit {0}
 OnlyBy source (MaybeIdentity.Some i) = i ≡ source
 
-no-second : (source : Identity) (o : MaybeIdentity) → OnlyBy source o → another o source ≡ false
+pub no-second : (source : Identity) (o : MaybeIdentity) → OnlyBy source o → another o source ≡ false
 no-second source MaybeIdentity.None only = refl
 no-second source (MaybeIdentity.Some i) only = ap not (same-identity i source .1 only)
 
@@ -49,7 +49,7 @@ module _ (p : Port) (id : ℕ) where
   -- ---- the answers to us, of no second responder
 
   module _ (h : Header) (same-id : h .id ≡ id) (requester : Identity) (ours : p .config .identity ≡ requester) where
-    answer-is : (o : MaybeIdentity) (a b c d : MaybeTime) → OnlyBy (h .source) o → (answer : Worked (Change PeerState)) (sum : Worked Time) (new : Time → PeerState) → answer ≡ (sum then λ t. worked (becomes (new t))) → peerAnswer (withPeer p (exchange o a b c d)) h requester answer ≡ (sum then λ t. settle (withPeer p (new t)))
+    pub answer-is : (o : MaybeIdentity) (a b c d : MaybeTime) → OnlyBy (h .source) o → (answer : Worked (Change PeerState)) (sum : Worked Time) (new : Time → PeerState) → answer ≡ (sum then λ t. worked (becomes (new t))) → peerAnswer (withPeer p (exchange o a b c d)) h requester answer ≡ (sum then λ t. settle (withPeer p (new t)))
     unfolding peerAnswer secondResponder
     answer-is o a b c d only answer sum new made =
         let q : Port = withPeer p (exchange o a b c d) in
@@ -72,7 +72,7 @@ module _ (p : Port) (id : ℕ) where
     later-new a b d t = exchange (MaybeIdentity.Some (h .source)) a b (MaybeTime.Some t) d
 
     -- its follow-up, by either entry
-    pub follow-up-turns : (e : Event) (w : WireTimestamp) (t : Time) → Brings e h (Body.PDelayRespFollowUp w requester) t → (o : MaybeIdentity) (a b d : MaybeTime) → OnlyBy (h .source) o → Turns (peerPart p) (exchange o a b MaybeTime.None d) e (time t +ℤ correction (h .correction)) (later-new a b d)
+    pub follow-up-turns : (e : Event) (w : WireTimestamp) (t : Time) → Brings (p .config) e h (Body.PDelayRespFollowUp w requester) t → (o : MaybeIdentity) (a b d : MaybeTime) → OnlyBy (h .source) o → Turns (peerPart p) (exchange o a b MaybeTime.None d) e (time t +ℤ correction (h .correction)) (later-new a b d)
     unfolding onEvent onGeneral pDelayRespFollowUp respondedLater
     follow-up-turns e w t brings o a b d only =
         let g : pDelayRespFollowUp (withPeer p (exchange o a b MaybeTime.None d)) h requester t ≡ (plusCorrection t h then λ u. settle (withPeer p (later-new a b d u))) = answer-is o a b MaybeTime.None d only _ (plusCorrection t h) (later-new a b d) (λ i. cond (eq-eqb id (h .id) (sym same-id) i) (plusCorrection t h then λ u. worked (becomes (later-new a b d u))) (worked stays)) in

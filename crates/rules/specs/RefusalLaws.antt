@@ -22,7 +22,7 @@ use Rattle.rules.specs.EveryLaws.{Rows, Every, every-rule}
 abbrev pub NotTaken : Outcome → Type 0
 NotTaken o = o ≡ Outcome.Taken → ⊥
 
-not-taken : Rows NotTaken
+pub not-taken : Rows NotTaken
 not-taken =
     record {
       unfit = λ e. apart cc;

@@ -12,35 +12,25 @@ use Rattle.wire.specs.BytesLaws.{apart}
 use Rattle.wire.specs.Layout.{timestampOf}
 use Rattle.wire.specs.Reading.{readOf}
 use Rattle.wire.specs.ReadingLaws.{message-is}
-use Rattle.rules.specs.Names.{Time, Header, Body, Reading, Port, Outcome}
+use Rattle.rules.specs.Names.{Time, Header, Body, Reading, Config, Port, Outcome}
 use Rattle.rules.specs.Worked.{Worked, refused}
-use Rattle.rules.specs.Events.{Event, event, general, stamp, syncTimer, delayTimer, filterAnswer, setState, Done}
+use Rattle.rules.specs.Events.{Event, event, general, stamp, syncTimer, delayTimer, filterAnswer, setState, Done, Brings}
 use Rattle.rules.specs.Rules.{onEvent, onGeneral}
 use Rattle.rules.specs.Table.{ours}
 use Rattle.rules.specs.Step.{viewed, ruleOf}
 use Rattle.rules.specs.AgreeLaws.{by-test}
 use Rattle.rules.specs.AllLaws.{All, Silent, all-cond}
 
--- bytes that an event brings, by either entry, and what they read as
-abbrev pub Brings : Event → Header → Body → Time → Type 0
-Brings (event at message) h b t = readOf message ≡ Reading.Message h b t
-Brings (general message) h b t = readOf message ≡ Reading.Message h b t
-Brings (stamp at context) h b t = ⊥
-Brings syncTimer h b t = ⊥
-Brings (delayTimer draw) h b t = ⊥
-Brings (filterAnswer update) h b t = ⊥
-Brings (setState new) h b t = ⊥
-
 module _ (h : Header) (b : Body) (t : Time) where
   -- what holds by both entries
-  by-entry : (C : Event → Type 0) → ((at : Time) (message : List ℕ) → readOf message ≡ Reading.Message h b t → C (event at message)) → ((message : List ℕ) → readOf message ≡ Reading.Message h b t → C (general message)) → (e : Event) → Brings e h b t → C e
-  by-entry C f g (event at message) r = f at message r
-  by-entry C f g (general message) r = g message r
-  by-entry C f g (stamp at context) r = absurd r
-  by-entry C f g syncTimer r = absurd r
-  by-entry C f g (delayTimer draw) r = absurd r
-  by-entry C f g (filterAnswer update) r = absurd r
-  by-entry C f g (setState new) r = absurd r
+  pub by-entry : (C : Event → Type 0) → ((at : Time) (message : List ℕ) → readOf message ≡ Reading.Message h b t → C (event at message)) → ((message : List ℕ) → readOf message ≡ Reading.Message h b t → C (general message)) → (c : Config) (e : Event) → Brings c e h b t → C e
+  by-entry C f g c (event at message) r = f at message r
+  by-entry C f g c (general message) r = g message r
+  by-entry C f g c (stamp at context) r = absurd r
+  by-entry C f g c syncTimer r = absurd r
+  by-entry C f g c (delayTimer draw) r = absurd r
+  by-entry C f g c (filterAnswer update) r = absurd r
+  by-entry C f g c (setState new) r = absurd r
 
   -- ---- to its rule, or refused
 
@@ -55,12 +45,12 @@ module _ (h : Header) (b : Body) (t : Time) where
     event-rule at message r k = read-rule (readOf message) (onEvent p at) r k
 
     -- both entries give it to the same one
-    pub brought-rule : (w : Worked Done) → ((at : Time) → onEvent p at h b t ≡ w) → onGeneral p h b t ≡ w → (e : Event) → Brings e h b t → All P w → All P (ruleOf p e)
+    pub brought-rule : (w : Worked Done) → ((at : Time) → onEvent p at h b t ≡ w) → onGeneral p h b t ≡ w → (e : Event) → Brings (p .config) e h b t → All P w → All P (ruleOf p e)
     unfolding ruleOf
     brought-rule w f g e r k =
         by-entry (λ x. All P (ruleOf p x))
         (λ at message q. event-rule at message q (subst (All P) (sym (f at)) k))
-        (λ message q. read-rule (readOf message) (onGeneral p) q (subst (All P) (sym g) k)) e r
+        (λ message q. read-rule (readOf message) (onGeneral p) q (subst (All P) (sym g) k)) (p .config) e r
 
   -- ---- its time
 
@@ -74,5 +64,5 @@ module _ (h : Header) (b : Body) (t : Time) where
       ap time g ∙ ap pos (split ((w .seconds * 10 ^ 9 + w .nanos) * 2 ^ 32) 64))
       (λ v. absurd (apart cc)) (message-is message h b t e .time)
 
-  pub brought-time : (e : Event) → Brings e h b t → time t ≡ wire (timestampOf b)
+  pub brought-time : (c : Config) (e : Event) → Brings c e h b t → time t ≡ wire (timestampOf b)
   brought-time = by-entry (λ e. time t ≡ wire (timestampOf b)) (λ at message r. wire-time message r) wire-time
