@@ -22,7 +22,7 @@ use Rattle.rules.specs.Table.{ours}
 use Rattle.rules.specs.Step.{ruleOf}
 use Rattle.rules.specs.WorkedOut.{Completed, peerOpened}
 use Rattle.rules.specs.Runs.{requests, Item, joined}
-use Rattle.rules.specs.Times.{Times, timesIn, timesOf, receivedAt, sentAt, requestOf}
+use Rattle.rules.specs.Times.{Times, timesIn, timesOf, receivedAt, requestOf}
 use Rattle.rules.specs.Whole.{Piece, theSync, theFollowUp, theStamp, theDelayResp, thePDelayResp, thePDelayRespFollowUp, InAnyOrder, delayPieces, FromMaster, OfDelay, aDelayStamp, aDelayResp, asked, RequestAnswers, RequestExchanges}
 use Rattle.rules.specs.Undisturbed.{isOpen}
 use Rattle.rules.specs.AllLaws.{Comes, Anything, Silent, all-map, all-then, all-lessCorrection, all-between, all-less}
@@ -35,11 +35,11 @@ use Rattle.rules.specs.TakenLaws.{brought-time}
 use Rattle.rules.specs.RunLaws.{less-worth}
 use Rattle.rules.specs.SideLaws.{Goes}
 use Rattle.rules.specs.StandingLaws.{Asking, Shared, slaveWith, FitAsking, threeSteps, three-steps, three-come}
-use Rattle.rules.specs.TimesLaws.{overlap, finished, Bag, emptyBag, with-send, with-receive, HoldsAll, FillsAll, lacks-send, lacks-receive, one-missing, BothThere, both-there}
+use Rattle.rules.specs.TimesLaws.{overlap, finished, Bag, emptyBag, with-receive, HoldsAll, FillsAll, lacks-receive, one-missing, BothThere, both-there}
 use Rattle.rules.specs.ReadLaws.{brought-rule-is, brought-times}
 use Rattle.rules.specs.LaneLaws.{Stores, Completes, Rest, rest-goes}
 use Rattle.rules.specs.OrderLaws.{Shape, shapeOf, noShape, twoThere, delay-finished, OfAny, as-rest}
-use Rattle.rules.specs.RequestSideLaws.{asks, AskingExchange, AskingGoes, asking-gate, request-part, nothing-yet}
+use Rattle.rules.specs.RequestSideLaws.{asks, AskingExchange, AskingGoes, asking-gate, stamp-stores, request-part, nothing-yet}
 
 -- a peer exchange that is not open is open with no id
 pub none-open : {A : Type 0} (q : PeerState) (j : ℕ) → isOpen q ≡ false → peerOpened j q ≡ true → A
@@ -61,20 +61,11 @@ module _ (c : Config) (master : Identity) (room : ℕ) (end-to-end : c .mechanis
       DelayStores e v = Stores c master room requests (asks c master room) (FitAsking c master) FitSync idAfter (holdingDelay id) e v
 
       module _ (es : List Event) (v : Bag) (held : HoldsAll (timesOf c es) v) where
-        stamp-stores : (t : Time) → overlap (timesOf c es) (timesIn c (stamp t (Context.DelayReq id))) ≡ false → DelayStores (stamp t (Context.DelayReq id)) v
+        stamped-stores : (t : Time) → overlap (timesOf c es) (timesIn c (stamp t (Context.DelayReq id))) ≡ false → DelayStores (stamp t (Context.DelayReq id)) v
         unfolding ruleOf stamped delayStamped timesIn
-        stamp-stores t missing =
-            let no-send : v .send ≡ MaybeTime.None = lacks-send (timesOf c es) (sentAt (time t)) v held missing (time t) refl in
-            record {
-              guard = true;
-              sum = worked t;
-              range = tt;
-              next-bag = with-send v;
-              rule = λ x z fx.
-                  let p : Port = asks c master room (holdingDelay id v) x z in
-                  λ i. keeping p (λ d. asks c master room (delaySide d) x z) (cond (eq-eqb id id refl i) (cond (there (no-send i)) stays (becomes (Exchange.Measuring id (MaybeTime.Some t) (v .receive)))) stays);
-              fills = record { send = refl; receive = refl; requestReceive = refl; responseSend = refl };
-            }
+        stamped-stores t missing =
+            stamp-stores c master room (holdingDelay id) es v held (stamp t (Context.DelayReq id)) t refl missing (λ no-send x z i.
+            keeping (asks c master room (holdingDelay id v) x z) (λ d. asks c master room (delaySide d) x z) (cond (eq-eqb id id refl i) (cond (there (no-send i)) stays (becomes (Exchange.Measuring id (MaybeTime.Some t) (v .receive)))) stays))
 
         response-stores : (e : Event) (h : Header) (w : WireTimestamp) (requester : Identity) (u : Time) → Brings c e h (Body.DelayResp w requester) u → FromMaster master id h → requester ≡ c .identity → overlap (timesOf c es) (timesIn c e) ≡ false → DelayStores e v
         unfolding onEvent onGeneral delayResp delayAnswered
@@ -162,7 +153,7 @@ module _ (c : Config) (master : Identity) (room : ℕ) (end-to-end : c .mechanis
           record { delay = tt; peer = fq; only-delay = λ j o. absurd (true≢false (sym o)); only-peer = λ j o. none-open q j not-open o }
 
       delay-of : (es : List Event) (e : Event) (v : Bag) → OfAny (OfDelay c master id) e → HoldsAll (timesOf c es) v → overlap (timesOf c es) (timesIn c e) ≡ false → DelayStores id e v
-      delay-of es e v (p, aDelayStamp t) held missing = stamp-stores id es v held t missing
+      delay-of es e v (p, aDelayStamp t) held missing = stamped-stores id es v held t missing
       delay-of es e v (p, aDelayResp f h w requester u brought from to-us) held missing = response-stores id es v held f h w requester u brought from to-us missing
 
       delay-exchanging : AskingExchange c master room id (OfAny (OfDelay c master id)) (holdingDelay id) (delaySide Exchange.Empty)

@@ -71,13 +71,15 @@ finished-given : (a : Option ℤ) (k : ℤ → Completed) (b : Bool) → ((z : �
 finished-given none k b f = refl
 finished-given (some z) k b f = f z
 
+two-finished : (made : ℤ → ℤ → Completed) → ((x y : ℤ) → finished (made x y) ≡ true) → (a b : Option ℤ) → finished (ifGiven a (λ x. ifGiven b (λ y. made x y))) ≡ (isGiven a && isGiven b)
+two-finished made done a b =
+    finished-given a _ (isGiven b) (λ x. finished-given b _ true (done x) ∙ and-true (isGiven b))
+
 pub sync-finished : (t : Times) → finished (syncOf t) ≡ twoThere (shapeOf t)
-sync-finished t =
-    finished-given (t .send) _ (isGiven (t .receive)) (λ x. finished-given (t .receive) _ true (λ y. refl) ∙ and-true (isGiven (t .receive)))
+sync-finished t = two-finished Completed.sync (λ x y. refl) (t .send) (t .receive)
 
 pub delay-finished : (t : Times) → finished (requestOf Mechanism.EndToEnd t) ≡ twoThere (shapeOf t)
-delay-finished t =
-    finished-given (t .send) _ (isGiven (t .receive)) (λ x. finished-given (t .receive) _ true (λ y. refl) ∙ and-true (isGiven (t .receive)))
+delay-finished t = two-finished Completed.delay (λ x y. refl) (t .send) (t .receive)
 
 pub peer-finished : (t : Times) → finished (requestOf Mechanism.Peer t) ≡ fourThere (shapeOf t)
 peer-finished t =

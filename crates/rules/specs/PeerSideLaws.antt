@@ -23,7 +23,7 @@ use Rattle.rules.specs.Table.{ours}
 use Rattle.rules.specs.Step.{ruleOf}
 use Rattle.rules.specs.WorkedOut.{Completed}
 use Rattle.rules.specs.Runs.{requests, Item, joined}
-use Rattle.rules.specs.Times.{Times, timesIn, timesOf, sentAt, respondedAt, responseTimes, requestOf}
+use Rattle.rules.specs.Times.{Times, timesIn, timesOf, respondedAt, responseTimes, requestOf}
 use Rattle.rules.specs.Whole.{Piece, theSync, theFollowUp, theStamp, theDelayResp, thePDelayResp, thePDelayRespFollowUp, InAnyOrder, peerPieces, FromResponder, OfPeer, aPeerStamp, aPDelayResp, aPDelayRespFollowUp, PeerAnswers, asked, RequestAnswers, RequestExchanges}
 use Rattle.rules.specs.Undisturbed.{isOpen}
 use Rattle.rules.specs.AllLaws.{Comes, Anything, Silent, all-map, all-lessCorrection, all-plusCorrection, all-between, all-less}
@@ -36,11 +36,11 @@ use Rattle.rules.specs.RunLaws.{less-worth, plus-worth}
 use Rattle.rules.specs.PeerRunLaws.{OnlyBy, answer-is}
 use Rattle.rules.specs.SideLaws.{Goes}
 use Rattle.rules.specs.StandingLaws.{Asking, Shared, slaveWith, FitAsking, threeSteps, three-steps, three-come}
-use Rattle.rules.specs.TimesLaws.{overlap, finished, Bag, emptyBag, with-send, with-response-send, HoldsAll, FillsAll, lacks-send, lacks-receive, lacks-response-send, one-of-four-missing, FourThere, four-there}
+use Rattle.rules.specs.TimesLaws.{overlap, finished, Bag, emptyBag, with-send, with-response-send, HoldsAll, FillsAll, lacks-receive, lacks-response-send, one-of-four-missing, FourThere, four-there}
 use Rattle.rules.specs.ReadLaws.{event-rule-is, brought-rule-is, event-times, brought-times}
 use Rattle.rules.specs.LaneLaws.{Stores, Completes, Rest, rest-goes}
 use Rattle.rules.specs.OrderLaws.{Shape, shapeOf, noShape, fourThere, peer-finished, everyOrder, OfAny, as-rest}
-use Rattle.rules.specs.RequestSideLaws.{asks, AskingExchange, AskingGoes, asking-gate, request-part, nothing-yet}
+use Rattle.rules.specs.RequestSideLaws.{asks, AskingExchange, AskingGoes, asking-gate, stamp-stores, request-part, nothing-yet}
 use Rattle.rules.specs.DelaySideLaws.{none-open}
 
 -- ---- the responder is known as soon as a time came from him
@@ -75,20 +75,11 @@ module _ (c : Config) (master : Identity) (room : ℕ) (peer-to-peer : c .mechan
       PeerStores e v = Stores c master room requests (asks c master room) (FitAsking c master) FitSync idAfter (holdingPeer id i) e v
 
       module _ (es : List Event) (v : Bag) (held : HoldsAll (timesOf c es) v) where
-        stamp-stores : (t : Time) → overlap (timesOf c es) (timesIn c (stamp t (Context.PDelayReq id))) ≡ false → PeerStores (stamp t (Context.PDelayReq id)) v
+        stamped-stores : (t : Time) → overlap (timesOf c es) (timesIn c (stamp t (Context.PDelayReq id))) ≡ false → PeerStores (stamp t (Context.PDelayReq id)) v
         unfolding ruleOf stamped peerStamped timesIn
-        stamp-stores t missing =
-            let no-send : v .send ≡ MaybeTime.None = lacks-send (timesOf c es) (sentAt (time t)) v held missing (time t) refl in
-            record {
-              guard = true;
-              sum = worked t;
-              range = tt;
-              next-bag = with-send v;
-              rule = λ x z fx.
-                  let p : Port = asks c master room (holdingPeer id i v) x z in
-                  λ j. keeping p (λ q. asks c master room (peerSide q) x z) (cond (eq-eqb id id refl j) (cond (there (no-send j)) stays (becomes (peerWith id i (with-send v t)))) stays);
-              fills = record { send = refl; receive = refl; requestReceive = refl; responseSend = refl };
-            }
+        stamped-stores t missing =
+            stamp-stores c master room (holdingPeer id i) es v held (stamp t (Context.PDelayReq id)) t refl missing (λ no-send x z j.
+            keeping (asks c master room (holdingPeer id i v) x z) (λ q. asks c master room (peerSide q) x z) (cond (eq-eqb id id refl j) (cond (there (no-send j)) stays (becomes (peerWith id i (with-send v t)))) stays))
 
         -- a response brings two times, and one-step a third
         abbrev with-response : Bool → Time → Time → Bag
@@ -197,7 +188,7 @@ module _ (c : Config) (master : Identity) (room : ℕ) (peer-to-peer : c .mechan
           }
 
       peer-of : (two : Bool) (es : List Event) (e : Event) (v : Bag) → OfAny (OfPeer c master id i two) e → HoldsAll (timesOf c es) v → overlap (timesOf c es) (timesIn c e) ≡ false → PeerStores e v
-      peer-of two es e v (p, aPeerStamp t) held missing = stamp-stores es v held t missing
+      peer-of two es e v (p, aPeerStamp t) held missing = stamped-stores es v held t missing
       peer-of two es e v (p, aPDelayResp at message h w requester u reads from steps) held missing = response-stores es v held two at message h w requester u reads from steps missing
       peer-of two es e v (p, aPDelayRespFollowUp f h w requester u brought from) held missing = follow-up-stores es v held f h w requester u brought from missing
 

@@ -1,20 +1,22 @@
 -- What asks for delays as a side of the record: the request, under either mechanism, begins its exchange with the next id and says so to the host.
 use Prim.Native.Nat.{ℕ}
-use mathlib.Core.Path.{_≡_, refl, ap, _∙_, subst}
+use mathlib.Core.Path.{_≡_, refl, sym, ap, _∙_, subst}
 use mathlib.Core.Bool.{true, false}
 use mathlib.Core.List.{List, [], _∷_}
 use mathlib.Core.Option.{some}
 use Rattle.time.specs.Timers.{delayTimerOf}
+use Rattle.time.specs.Units.{time}
 use Rattle.record.specs.Ids.{idAfter}
 use Rattle.record.specs.Fit.{configOut, unfit}
 use Rattle.record.specs.FitLaws.{FitSync}
-use Rattle.rules.specs.Names.{TimerAnswer, Identity, Exchange, Config, Port, Outcome, Message, Action, MaybeMeasurement}
+use Rattle.rules.specs.Names.{TimerAnswer, Time, Identity, MaybeTime, Exchange, Config, Port, Outcome, Message, Action, MaybeMeasurement}
 use Rattle.rules.specs.Worked.{Worked, worked, _then_, aTimer}
 use Rattle.rules.specs.Events.{Event, delayTimer, Done, Result, answered, sending, packet}
+use Rattle.rules.specs.Measuring.{settle}
 use Rattle.rules.specs.Table.{row1, row3}
 use Rattle.rules.specs.Step.{ruleOf, step}
 use Rattle.rules.specs.Runs.{requests, new, aPart, within, Item}
-use Rattle.rules.specs.Times.{timesIn, timesOf, comesTo}
+use Rattle.rules.specs.Times.{Times, sentAt, timesIn, timesOf, comesTo}
 use Rattle.rules.specs.Undisturbed.{Reply, measuredIn}
 use Rattle.rules.specs.PlainLaws.{plain, plainReply, PlainSays}
 use Rattle.rules.specs.SideLaws.{PartGoes}
@@ -22,8 +24,8 @@ use Rattle.rules.specs.AllLaws.{Comes, Anything}
 use Rattle.rules.specs.RefusalLaws.{NotTaken, not-taken}
 use Rattle.rules.specs.FitnessLaws.{fitness-kept}
 use Rattle.rules.specs.StandingLaws.{Asking, Shared, stands, FitAsking, gated, step-stands, LetThrough, let-through}
-use Rattle.rules.specs.TimesLaws.{Bag, emptyBag, HoldsAll}
-use Rattle.rules.specs.LaneLaws.{Ok, Exchanging, SideGoes}
+use Rattle.rules.specs.TimesLaws.{overlap, Bag, emptyBag, none-held, with-send, HoldsAll, FillsAll, lacks-send}
+use Rattle.rules.specs.LaneLaws.{Ok, Stores, Exchanging, SideGoes}
 
 module _ (c : Config) (master : Identity) (room : ℕ) where
   -- this side, with the sync exchange beside it
@@ -47,7 +49,20 @@ module _ (c : Config) (master : Identity) (room : ℕ) where
   -- the request itself brings no time
   pub nothing-yet : (draw : ℕ) → HoldsAll (timesOf c (delayTimer draw ∷ [])) emptyBag
   unfolding timesOf timesIn
-  nothing-yet draw = record { send = tt; receive = tt; requestReceive = tt; responseSend = tt }
+  nothing-yet draw = none-held
+
+  -- the stamp of either request brings when it left, and nothing else
+  pub stamp-stores : (holding : Bag → Asking) (es : List Event) (v : Bag) → HoldsAll (timesOf c es) v → (e : Event) (t : Time) → timesIn c e ≡ sentAt (time t) → overlap (timesOf c es) (timesIn c e) ≡ false → (v .send ≡ MaybeTime.None → (x : Exchange) (z : Shared) → ruleOf (asks (holding v) x z) e ≡ settle (asks (holding (with-send v t)) x z)) → Stores c master room requests asks (FitAsking c master) FitSync idAfter holding e v
+  stamp-stores holding es v held e t brings missing rule =
+      let no-send : v .send ≡ MaybeTime.None = lacks-send (timesOf c es) (timesIn c e) v held missing (time t) (ap (λ (a : Times). a .send) brings) in
+      record {
+        guard = true;
+        sum = worked t;
+        range = tt;
+        next-bag = with-send v;
+        rule = λ x z fx. rule no-send x z;
+        fills = subst (λ (a : Times). FillsAll a v (with-send v t)) (sym brings) (record { send = refl; receive = refl; requestReceive = refl; responseSend = refl });
+      }
 
   -- the request: from y, with this message and this action behind the timer, to the side that it leaves
   module _ (id draw : ℕ) (y left : Asking) (m : Message) (a : Action) (fy : FitAsking c master id y)

@@ -32,7 +32,7 @@ use Rattle.rules.specs.TakenLaws.{wire-time, brought-time}
 use Rattle.rules.specs.RunLaws.{less-worth, plus-worth}
 use Rattle.rules.specs.SideLaws.{Goes}
 use Rattle.rules.specs.StandingLaws.{Asking, Shared, slaveWith, stands, FitAsking, gated, step-stands, threeSteps, three-steps, three-come}
-use Rattle.rules.specs.TimesLaws.{overlap, finished, Bag, emptyBag, with-send, with-receive, HoldsAll, FillsAll, lacks-send, lacks-receive, one-missing, BothThere, both-there}
+use Rattle.rules.specs.TimesLaws.{overlap, finished, Bag, emptyBag, none-held, with-send, with-receive, HoldsAll, FillsAll, lacks-send, lacks-receive, one-missing, BothThere, both-there}
 use Rattle.rules.specs.ReadLaws.{event-rule-is, brought-rule-is, event-times, brought-times}
 use Rattle.rules.specs.LaneLaws.{Stores, Completes, Exchanging, Rest, SideGoes, rest-goes}
 use Rattle.rules.specs.OrderLaws.{Shape, shapeOf, noShape, twoThere, sync-finished, everyOrder, OfAny, as-rest}
@@ -245,12 +245,8 @@ module _ (c : Config) (master : Identity) (room : ℕ) where
   sync-gate : (u : Unit {0}) (x : Exchange) (y : Asking) (z : Shared) (e : Event) → FitSync x → FitOther y → step (stands c master x y z) room e ≡ answered (stands c master x y z) (gated c master room e (ruleOf (stands c master x y z) e))
   sync-gate u x y z e fx (id, fy) = step-stands c master room e x y z fx (fy .delay) (fy .peer)
 
-  no-times : HoldsAll (timesOf c []) emptyBag
-  unfolding timesOf
-  no-times = record { send = tt; receive = tt; requestReceive = tt; responseSend = tt }
-
   pub sync-goes : (xs : List (List (Item Event))) → SyncExchanges c master xs → SideGoes c master room syncs (stands c master) (λ (u : Unit {0}) x. FitSync x) FitOther (λ u. u) tt [] Exchange.Empty (joined xs)
-  unfolding SyncExchanges joined Goes
+  unfolding SyncExchanges joined Goes timesOf
   sync-goes [] w = tt
   sync-goes (x ∷ xs) (w, more) =
-      rest-goes c master room syncs (stands c master) (λ u x. FitSync x) FitOther (λ u. u) sync-gate (sync-exchanging (w .id) (w .two)) x (joined xs) [] emptyBag no-times tt (sync-rest (w .id) (w .two) x (w .events)) (sync-goes xs more)
+      rest-goes c master room syncs (stands c master) (λ u x. FitSync x) FitOther (λ u. u) sync-gate (sync-exchanging (w .id) (w .two)) x (joined xs) [] emptyBag none-held tt (sync-rest (w .id) (w .two) x (w .events)) (sync-goes xs more)

@@ -92,6 +92,9 @@ pub record HoldsAll (a : Times) (v : Bag) : Type 0 where
   pub requestReceive : Holds (a .requestReceive) (v .requestReceive)
   pub responseSend : Holds (a .responseSend) (v .responseSend)
 
+pub none-held : HoldsAll noTimes emptyBag
+none-held = record { send = tt; receive = tt; requestReceive = tt; responseSend = tt }
+
 -- ---- what an event stores: where it brings nothing, the time that was held; else a time worth what it brings
 
 abbrev pub Fills : Option ℤ → MaybeTime → MaybeTime → Type 0
