@@ -12,10 +12,7 @@ read, and it is told how often it makes the same bytes. Needs tshark, and the pr
 ('rt check wire_vectors' makes it, './tefandukk tshark' makes it and runs this).
 """
 
-import json
-import os
 import random
-import struct
 import subprocess
 import sys
 import tempfile
@@ -24,6 +21,7 @@ from pathlib import Path
 
 sys.dont_write_bytecode = True
 import wire_vectors as asked
+from tshark import ADDED, BODIES, capture, fail, frames, number, program
 
 NAMES = ["Sync", "DelayReq", "PDelayReq", "PDelayResp", "type 4", "type 5", "type 6", "type 7", "FollowUp"]
 NAMES += ["DelayResp", "PDelayRespFollowUp", "Announce", "Signaling", "Management", "type 14", "type 15"]
@@ -35,88 +33,24 @@ SHOWN |= {"clock": "clockidentity", "port": "sourceportid", "id": "sequenceid", 
 FLAGS = {0x0100: "alternatemaster", 0x0200: "twostep", 0x0400: "unicast", 0x2000: "specific1", 0x4000: "specific2"}
 FLAGS |= {0x8000: "security", 0x0001: "li61", 0x0002: "li59", 0x0004: "utcreasonable", 0x0008: "timescale"}
 FLAGS |= {0x0010: "timetraceable", 0x0020: "frequencytraceable", 0x0040: "synchronizationUncertain"}
-# Each type's timestamp, and its requester's clock and port.
-BODIES = {0: ("sdr.origintimestamp",), 1: ("sdr.origintimestamp",), 2: ("pdrq.origintimestamp",)}
-BODIES |= {8: ("fu.preciseorigintimestamp",)}
-BODIES[3] = ("pdrs.requestreceipttimestamp", "pdrs.requestingportidentity", "pdrs.requestingsourceportid")
-BODIES[9] = ("dr.receivetimestamp", "dr.requestingsourceportidentity", "dr.requestingsourceportid")
-BODIES[10] = ("pdfu.responseorigintimestamp", "pdfu.requestingportidentity", "pdfu.requestingsourceportid")
-# What tshark shows as signed, by the end of its name; we have it as it stands on the wire.
-SIGNED = {"logmessageperiod": 8, "timestamp.nanoseconds": 32, "correction.ns": 64}
 # Where majorSdoId is odd tshark reads messages of 802.1AS, in which these have other bodies.
 OTHER_IN_AS = (0, 2, 8)
-# What tshark adds and the packet does not hold: a vendor by the clock's first bytes.
-ADDED = {"clockidentity_manuf"}
-ETHERNET = bytes.fromhex("011b19000000 020000000001 88f7")
 DRAWN = 40
-
-
-def fail(text):
-    sys.exit(f"tshark_packets: {text}")
-
-
-def program():
-    """The words that run the proved program: the kit's loader and C library, and its emulator where there is one."""
-    binary = Path(__file__).resolve().parent.parent / "target" / "bin" / "wire_vectors"
-    if not binary.exists():
-        fail("no target/bin/wire_vectors; 'rt check wire_vectors' proves and makes it")
-    try:
-        guide = subprocess.run(["rt", "doc"], capture_output=True, text=True, check=True).stdout.strip()
-    except OSError:
-        fail("the Rattle kit's command rt is not on the path")
-    kit = Path(guide).parent.parent / "on" / os.uname().machine / "toolchain"
-    emulator = kit / "bin" / "qemu-x86_64"
-    loader = [str(kit / "lib" / "ld-linux-x86-64.so.2"), "--library-path", str(kit / "lib"), str(binary)]
-    return ([str(emulator)] if os.access(emulator, os.X_OK) else []) + loader
 
 
 def answers(questions):
     """The program's answers, each as its words."""
-    ran = subprocess.run(program(), input="".join(q + "\n" for q in questions), capture_output=True, text=True)
+    ran = subprocess.run(program("wire_vectors"), input="".join(q + "\n" for q in questions), capture_output=True, text=True)
     lines = ran.stdout.splitlines()
     if ran.returncode != 0 or len(lines) != len(questions):
         fail(f"the program answered {len(lines)} of {len(questions)} questions")
     return [line.split() for line in lines]
 
 
-def flat(tree, into):
-    for name, value in tree.items():
-        if isinstance(value, dict):
-            flat(value, into)
-        else:
-            into[name] = value
-    return into
-
-
-def number(name, text):
-    """A value as tshark shows it, as the number on the wire."""
-    if name == "correction.subns":
-        return round(float(text) * 65536)
-    return int(text, 0) % 2 ** next((bits for end, bits in SIGNED.items() if name.endswith(end)), 128)
-
-
 def decoded(path):
     """Of each PTP message in a capture: its bytes, and what tshark shows of it."""
-    words = ["tshark", "-n", "-r", str(path), "-Y", "ptp", "-T", "json", "-x", "--no-duplicate-keys"]
-    try:
-        ran = subprocess.run(words, capture_output=True, text=True)
-    except OSError:
-        fail("tshark is not on the path")
-    if ran.returncode != 0:
-        fail(f"tshark on {path}: {ran.stderr.strip()}")
-    for packet in json.loads(ran.stdout):
-        layers = packet["_source"]["layers"]
-        if isinstance(layers["ptp"], list):
-            fail(f"{path}: more than one message in a frame")
-        start = layers["ptp_raw"][1]
-        frame = bytes.fromhex(layers["frame_raw"][0])
-        end = layers["udp_raw"][1] + int(layers["udp"]["udp.length"]) if "udp" in layers else len(frame)
-        fields = flat(layers["ptp"], {})
-        shown = {name[7:]: text for name, text in fields.items() if name.startswith("ptp.v2.") and text != ""}
-        shown = {name: text for name, text in shown.items() if not name.endswith("_raw")}
-        if "_ws.malformed" in layers:
-            shown["malformed"] = "1"
-        yield frame[start:end], shown
+    for frame in frames(path):
+        yield frame.message, frame.shown
 
 
 def expected(header, body=None):
@@ -197,14 +131,6 @@ def made():
         yield question, *asked.sent_values(request, kind, us, 0x4000 + kind, 0xF0 + kind, time)
         for header, body in [distinct(kind), *(distinct(kind, draw) for _ in range(DRAWN))]:
             yield asked.write(header, kind, body, 64)[0], header, body
-
-
-def capture(path, messages):
-    with open(path, "wb") as out:
-        out.write(struct.pack("<IHHiIII", 0xA1B2C3D4, 2, 4, 0, 0, 65535, 1))
-        for n, message in enumerate(messages):
-            frame = ETHERNET + message
-            out.write(struct.pack("<IIII", n, 0, len(frame), len(frame)) + frame)
 
 
 def written():

@@ -4,7 +4,7 @@ use mathlib.Core.Path.{_≡_, refl, ap}
 use mathlib.Core.Bool.{Bool, true, false, cond}
 use lib.Dec.{ltb}
 use Rattle.wire.specs.BytesLaws.{apart}
-use Rattle.record.specs.Fit.{unfit}
+use Rattle.fitness.specs.Fit.{unfit}
 use Rattle.rules.specs.Names.{Time, Header, Body, Reading, Config, Port, Outcome}
 use Rattle.rules.specs.Worked.{Worked, refused}
 use Rattle.rules.specs.Events.{Event, Done, refusal, answered}

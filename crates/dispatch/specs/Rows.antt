@@ -2,7 +2,7 @@
 use Prim.Native.Nat.{ℕ}
 use mathlib.Core.Bool.{Bool, cond}
 use lib.Dec.{ltb}
-use Rattle.record.specs.Fit.{unfit}
+use Rattle.fitness.specs.Fit.{unfit}
 use Rattle.rules.specs.Names.{Time, Header, Body, Reading, Config, Port, Outcome}
 use Rattle.rules.specs.Worked.{Worked, refused}
 use Rattle.rules.specs.Events.{Done}

@@ -22,7 +22,7 @@ impl Gate {
         if room < LEAST_BUFFER {
             return Gate::Shut(Outcome::Buffer);
         }
-        if port.is_unfit() {
+        if fitness::is_unfit(port) {
             return Gate::Shut(Outcome::Unfit);
         }
         if limits {

@@ -1,5 +1,7 @@
 // What the handlers of a port hand on: the answer, and the message that is to be sent with it, not yet written.
-// Crate port writes it. Handlers are in crates slave and master.
+// Function send writes it, for crate port. Handlers are in crates slave and master.
+pub mod sending;
+
 ghost use mathlib.Core.Path.{_≡_};
 ghost use mathlib.Core.Bool.{false};
 ghost use mathlib.Core.List.{[], _∷_};

@@ -5,7 +5,7 @@ use mathlib.Core.List.{List, [], _∷_, _++_, append-assoc, append-nil}
 use native.Mathlib.Omega.{arith}
 use lib.ListN.{length, getD}
 use Rattle.record.specs.declared.Todo.{Todo}
-use Rattle.port.specs.ToldLaws.{firstActions}
+use Rattle.record.specs.Answers.{firstActions}
 use Rattle.text.specs.Page.{Wrote}
 use Rattle.text.specs.PageLaws.{wrote-as}
 use Rattle.text.specs.Digits.{hexOf}

@@ -20,10 +20,9 @@ use Rattle.record.specs.declared.PeerState.{PeerState}
 use Rattle.record.specs.declared.Port.{Port}
 use Rattle.record.specs.declared.PortState.{PortState}
 use Rattle.record.specs.declared.SlaveState.{SlaveState}
-use Rattle.record.specs.Answers.{numberOf}
+use Rattle.record.specs.Answers.{numberOf, firstActions}
 use Rattle.record.specs.Record.{stateNumber}
 use Rattle.rules.specs.Events.{Result}
-use Rattle.port.specs.ToldLaws.{firstActions}
 use Rattle.text.specs.Ascii.{ascii}
 use Rattle.text.specs.Digits.{decimalOf, hexIn, hexOf}
 use Rattle.lines.specs.declared.Style.{Style}

@@ -1,6 +1,6 @@
 // An answer's actions as text.
 ghost use Rattle.text.specs.Page.{Wrote};
-ghost use Rattle.port.specs.ToldLaws.{firstActions};
+ghost use Rattle.record.specs.Answers.{firstActions};
 ghost use Rattle.lines.specs.Lines.{contextText, linkText, actionText, actionsText};
 use crate::values;
 use record::Action;

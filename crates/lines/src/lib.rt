@@ -1,10 +1,9 @@
 // The lines of `replay` and `trace`, written into a lent buffer from a place on. Each function answers the place behind what it wrote;
 // where the buffer ends nothing more is written.
 ghost use mathlib.Core.List.{_∷_, []};
-ghost use Rattle.record.specs.Answers.{numberOf};
+ghost use Rattle.record.specs.Answers.{numberOf, firstActions};
 ghost use Rattle.text.specs.Page.{Wrote};
 ghost use Rattle.text.specs.Digits.{decimalOf};
-ghost use Rattle.port.specs.ToldLaws.{firstActions};
 ghost use Rattle.lines.specs.Lines.{following, marked, maybeDuration, sentText, resetText, traceTexts, lineFor, badLine, lastLine};
 
 mod actions;

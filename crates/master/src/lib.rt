@@ -18,8 +18,8 @@ use record::Port;
 use record::sequence::id_after;
 use sent::MessageAnswer;
 use time::Time;
-use time::timer::TimerAnswer;
-use time::timer::sync_timer;
+use timers::TimerAnswer;
+use timers::sync_timer;
 use wire::Header;
 use wire::Identity;
 

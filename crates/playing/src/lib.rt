@@ -4,7 +4,8 @@
 ghost use mathlib.Core.Path.{_≡_};
 ghost use Prim.Native.Nat.{_-_, _≤_, _<_};
 ghost use lib.ListN.{length, take, drop};
-ghost use Rattle.playing.specs.Between.{Sound, Kept};
+ghost use Rattle.playing.specs.Between.{Sound, Kept, Turns, begun};
+ghost use Rattle.replaying.specs.Sessions.{startOf};
 use libc::STDIN_FILENO;
 use libc::STDOUT_FILENO;
 use lines::Style;
@@ -18,6 +19,22 @@ pub struct Flow {
     pub have: usize,
     pub last: bool,
     pub go: bool,
+}
+
+impl Flow {
+    // Before anything was read.
+    fn begin() -> Flow
+        ensures { λ r. ⌜ (r ≡ begun startOf) × Sound r 0 ⌝ }
+    {
+        let state = State::start();
+        Flow {
+            state,
+            start: 0,
+            have: 0,
+            last: false,
+            go: true,
+        }
+    }
 }
 
 // Moves the bytes from place from up to place to to the front.
@@ -86,6 +103,7 @@ fn turn(style: Style, fd: i32, name: &[u8], w: &mut [u8], out: &mut [u8], f: Flo
     requires { ⌜ Sound f (length (now w)) ⌝ }
     requires { ⌜ 1049 ≤ length (now w) ⌝ }
     ensures { λ r. ⌜ Sound r (length (now (w .entry))) ⌝ }
+    ensures { λ r. ⌜ Turns style f (now (w .entry)) (now (out .entry)) r (now (w .exit)) (now (out .exit)) ⌝ }
 {
     let start = f.start;
     let have = f.have;
@@ -120,13 +138,7 @@ fn turn(style: Style, fd: i32, name: &[u8], w: &mut [u8], out: &mut [u8], f: Flo
 fn pump(style: Style, fd: i32, name: &[u8], w: &mut [u8], out: &mut [u8])
     requires { ⌜ 1049 ≤ length (now w) ⌝ }
 {
-    let mut f = Flow {
-        state: State::start(),
-        start: 0,
-        have: 0,
-        last: false,
-        go: true,
-    };
+    let mut f = Flow::begin();
     let mut turns = u64::MAX;
     while turns > 0 {
         f = turn(style, fd, name, w, out, f);

@@ -7,8 +7,8 @@ use mathlib.Core.Option.{Option, none, some}
 use lib.ListN.{length, drop}
 use borrow.Author.Tests.{ltb-false}
 use Rattle.record.specs.declared.Answer.{Answer}
-use Rattle.record.specs.Answers.{answerOf, refusedWith}
-use Rattle.record.specs.Fit.{unfit}
+use Rattle.record.specs.Answers.{answerOf, refusedWith, withLength}
+use Rattle.fitness.specs.Fit.{unfit}
 use Rattle.rules.specs.Names.{Message, Port, Outcome, MaybeMeasurement, Action}
 use Rattle.rules.specs.Worked.{Worked, worked, refused}
 use Rattle.rules.specs.Events.{Event, Done, Result, packet, refusal, answered, bufferAfter}
@@ -18,12 +18,15 @@ use Rattle.rules.specs.RefusalLaws.{step-rule}
 use Rattle.rules.specs.Given.{BytesIn, ContextIn, PortIn, InTypes}
 use Rattle.rules.specs.WritableLaws.{Writable, sent-writable}
 use Rattle.handling.specs.declared.Handled.{Handled}
+use Rattle.handling.specs.declared.MaybeMessage.{MaybeMessage}
 use Rattle.handling.specs.Handling.{maybeMessage, handedOn, turnedDown, handledOf}
 use Rattle.dispatch.specs.declared.gates.Gate.{Gate}
 use Rattle.dispatch.specs.Rows.{gateOf}
 use Rattle.dispatch.specs.RowLaws.{IsOpen, gate-open, gate-shut}
 use Rattle.port.specs.Entries.{answerFor, Answers}
-use Rattle.port.specs.Pieces.{Ready, answerSent, bufferSent}
+use Rattle.handling.specs.Sending.{lengthLeft, bufferLeft}
+use Rattle.port.specs.Pieces.{Ready, answerSent, lengthSent, bufferSent}
+use Rattle.port.specs.SendLaws.{ready-length, ready-buffer}
 
 -- ---- what is told of a refusal, and of what is handed on and then sent
 
@@ -37,6 +40,11 @@ module _ (p : Port) (k : MaybeMeasurement) (as′ : List Action) (r : Bool) wher
   unfolding answerOf
   answer-told none = refl
   answer-told (some m) = refl
+
+-- an answer that nothing is sent with keeps its length
+length-told : (m : MaybeMessage) (a : Answer) → withLength a (lengthSent m (a .length)) ≡ answerSent m a
+length-told MaybeMessage.None a = refl
+length-told (MaybeMessage.Some m) a = refl
 
 buffer-told : (m : Option Message) (l : List ℕ) → bufferSent (maybeMessage m) l ≡ packet m ++ drop (length (packet m)) l
 unfolding bufferSent
@@ -79,17 +87,20 @@ module _ (p : Port) (e : Event) (l : List ℕ) (limits : Bool) (g : Gate) (row :
     passed = gate-open p (length l) (row3 e) (gate-is ∙ opened)
 
     -- the buffer takes what is to be sent
-    pub ready : PortIn p → ContextIn e → BytesIn e → Ready (h .message) (length l)
+    ready : PortIn p → ContextIn e → BytesIn e → Ready (h .message) (length l)
     ready t context bytes =
         subst (λ (z : Handled). Ready (z .message) (length l)) (sym r)
         (rule-ready p e (ruleOf p e) (length l) (ltb-false (length l) 64 (passed .enough)) (record { port = t; context = context; bytes = bytes }) (passed .fit) refl)
 
     -- and once it is sent, the entry has answered
-    pub sent : (a : Answer) (left : List ℕ) → a ≡ answerSent (h .message) (h .answer) → left ≡ bufferSent (h .message) l → Answers p e l a left
+    pub sent : PortIn p → ContextIn e → BytesIn e → (n : ℕ) (a : Answer) (left : List ℕ) → n ≡ lengthLeft (h .message) (h .answer .length) (length l)
+        → a ≡ withLength (h .answer) n → left ≡ bufferLeft (h .message) l → Answers p e l a left
     unfolding row1
-    sent a left x y =
+    sent t context bytes n a left k b y =
+        let takes : Ready (h .message) (length l) = ready t context bytes in
+        let x : a ≡ answerSent (h .message) (h .answer) = b ∙ ap (withLength (h .answer)) (k ∙ ready-length (h .message) (h .answer .length) (length l) takes) ∙ length-told (h .message) (h .answer) in
         let s : step p (length l) e ≡ answered p (ruleOf p e) = step-rule p (length l) e (passed .enough) (passed .fit) (passed .within) in
         let (v, w) = handled-told p (ruleOf p e) l in (
           x ∙ ap (λ (z : Handled). answerSent (z .message) (z .answer)) r ∙ v ∙ ap answerFor (sym s),
-          y ∙ ap (λ (z : Handled). bufferSent (z .message) l) r ∙ w ∙ ap (λ (z : Result). bufferAfter z l) (sym s),
+          y ∙ ready-buffer (h .message) l takes ∙ ap (λ (z : Handled). bufferSent (z .message) l) r ∙ w ∙ ap (λ (z : Result). bufferAfter z l) (sym s),
         )

@@ -1,32 +1,15 @@
 -- What an entry's promise gives its caller: `step`'s result part by part.
-use Prim.Native.Nat.{ℕ, zero, suc, _≤_}
+use Prim.Native.Nat.{ℕ}
 use mathlib.Core.Path.{_≡_, refl}
-use mathlib.Core.List.{List, [], _∷_}
-use native.Mathlib.Omega.{arith}
 use lib.ListN.{length}
 use Rattle.record.specs.declared.Answer.{Answer}
-use Rattle.record.specs.declared.Todo.{Todo}
-use Rattle.record.specs.Answers.{places, answerOf}
-use Rattle.rules.specs.Names.{Port, Action}
+use Rattle.record.specs.Answers.{answerOf, firstActions}
+use Rattle.record.specs.AnswersLaws.{actions-back}
+use Rattle.rules.specs.Names.{Port}
 use Rattle.rules.specs.Events.{Event, Result}
 use Rattle.rules.specs.Step.{step}
 use Rattle.rules.specs.ActionLaws.{actions-orderly}
 use Rattle.port.specs.Entries.{answerFor}
-
--- ---- the answer's parts
-
--- the actions in the first places
-abbrev pub firstActions : ℕ → List Todo → List Action
-firstActions zero todos = []
-firstActions (suc n) [] = []
-firstActions (suc n) (t ∷ ts) = t .action ∷ firstActions n ts
-
-actions-back : (as′ : List Action) → length as′ ≤ 2 → firstActions (length as′) (places as′) ≡ as′
-unfolding places
-actions-back [] h = refl
-actions-back (a ∷ []) h = refl
-actions-back (a ∷ b ∷ []) h = refl
-actions-back (a ∷ b ∷ c ∷ rest) h = absurd (omega (arith, h))
 
 pub record TellsResult (r : Result) (a : Answer) : Type 0 where
   pub outcome : a .outcome ≡ r .outcome

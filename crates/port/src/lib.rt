@@ -2,20 +2,17 @@
 // Every entry is the same: the gate of rows 1, 2 and 3, what the event's handler hands on, and the packet.
 ghost use Rattle.rules.specs.Events.{event, general, stamp, syncTimer, delayTimer, filterAnswer, setState};
 ghost use Rattle.port.specs.Entries.{Answers};
-
-mod sending;
-
 use dispatch::gates::Gate;
 use dispatch::hearing;
 use dispatch::host;
 use dispatch::stamps;
+use handling::sending;
 use master::Answering;
 use record::Answer;
 use record::Context;
 use record::FilterUpdate;
 use record::NewState;
 use record::Port;
-use record::fitness;
 use slave::Measuring;
 use time::Time;
 
@@ -35,7 +32,10 @@ impl Running {
         match gate {
             Gate::Open => {
                 let handled = hearing::on_event(port, recv_time, message);
-                sending::send(packet, handled)
+                let answer = handled.answer;
+                let outgoing = handled.message;
+                let length = sending::send(packet, outgoing, answer.length);
+                answer.with_length(length)
             }
             Gate::Shut(outcome) => Answer::refused(outcome, port),
         }
@@ -50,7 +50,10 @@ impl Running {
         match gate {
             Gate::Open => {
                 let handled = hearing::on_general(port, message);
-                sending::send(packet, handled)
+                let answer = handled.answer;
+                let outgoing = handled.message;
+                let length = sending::send(packet, outgoing, answer.length);
+                answer.with_length(length)
             }
             Gate::Shut(outcome) => Answer::refused(outcome, port),
         }
@@ -71,7 +74,10 @@ impl Running {
         match gate {
             Gate::Open => {
                 let handled = stamps::on_stamp(port, context, timestamp);
-                sending::send(packet, handled)
+                let answer = handled.answer;
+                let outgoing = handled.message;
+                let length = sending::send(packet, outgoing, answer.length);
+                answer.with_length(length)
             }
             Gate::Shut(outcome) => Answer::refused(outcome, port),
         }
@@ -86,7 +92,10 @@ impl Running {
             Gate::Open => {
                 let master = Answering { port };
                 let handled = master.send_sync();
-                sending::send(packet, handled)
+                let answer = handled.answer;
+                let outgoing = handled.message;
+                let length = sending::send(packet, outgoing, answer.length);
+                answer.with_length(length)
             }
             Gate::Shut(outcome) => Answer::refused(outcome, port),
         }
@@ -103,7 +112,10 @@ impl Running {
             Gate::Open => {
                 let slave = Measuring { port };
                 let handled = slave.send_delay_request(draw);
-                sending::send(packet, handled)
+                let answer = handled.answer;
+                let outgoing = handled.message;
+                let length = sending::send(packet, outgoing, answer.length);
+                answer.with_length(length)
             }
             Gate::Shut(outcome) => Answer::refused(outcome, port),
         }
@@ -118,7 +130,10 @@ impl Running {
         match gate {
             Gate::Open => {
                 let handled = host::on_filter(port, update);
-                sending::send(packet, handled)
+                let answer = handled.answer;
+                let outgoing = handled.message;
+                let length = sending::send(packet, outgoing, answer.length);
+                answer.with_length(length)
             }
             Gate::Shut(outcome) => Answer::refused(outcome, port),
         }
@@ -133,7 +148,10 @@ impl Running {
         match gate {
             Gate::Open => {
                 let handled = host::on_state(port, state);
-                sending::send(packet, handled)
+                let answer = handled.answer;
+                let outgoing = handled.message;
+                let length = sending::send(packet, outgoing, answer.length);
+                answer.with_length(length)
             }
             Gate::Shut(outcome) => Answer::refused(outcome, port),
         }

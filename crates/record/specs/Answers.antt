@@ -1,5 +1,5 @@
 -- Document 01, 'Numbers the port answers': the number of each outcome, and an answer's parts as the record holds them.
-use Prim.Native.Nat.{ℕ, _+_}
+use Prim.Native.Nat.{ℕ, zero, suc, _+_}
 use mathlib.Core.Bool.{Bool, false, cond}
 use mathlib.Core.List.{List, [], _∷_}
 use lib.ListN.{length, set}
@@ -32,6 +32,12 @@ unfoldable pub places : List Action → List Todo
 places [] = todo Action.None ∷ todo Action.None ∷ []
 places (a ∷ []) = todo a ∷ todo Action.None ∷ []
 places (a ∷ b ∷ rest) = todo a ∷ todo b ∷ []
+
+-- the actions in the first places
+abbrev pub firstActions : ℕ → List Todo → List Action
+firstActions zero todos = []
+firstActions (suc n) [] = []
+firstActions (suc n) (t ∷ ts) = t .action ∷ firstActions n ts
 
 unfoldable pub answerOf : Outcome → Port → MaybeMeasurement → ℕ → List Action → Bool → Answer
 answerOf o p m n as′ r =

@@ -1,4 +1,4 @@
--- Laws of answers: parts set one by one make the answer that `answerOf` spells, and the table's numbers tell outcomes apart.
+-- Laws of answers: the places hold the actions in their order, parts set one by one make the answer that `answerOf` spells, and the table's numbers tell outcomes apart.
 use Prim.Native.Nat.{ℕ, _≤_, _<_}
 use mathlib.Core.Path.{_≡_, refl, sym, ap, _∙_}
 use mathlib.Core.Bool.{Bool, false, cond}
@@ -12,7 +12,14 @@ use Rattle.record.specs.declared.Outcome.{Outcome}
 use Rattle.record.specs.declared.Measurement.{Measurement}
 use Rattle.record.specs.declared.MaybeMeasurement.{MaybeMeasurement}
 use Rattle.record.specs.declared.Action.{Action}
-use Rattle.record.specs.Answers.{numberOf, places, answerOf, takenWith, withMeasurement, withReset, withLength, withAction}
+use Rattle.record.specs.Answers.{numberOf, places, firstActions, answerOf, takenWith, withMeasurement, withReset, withLength, withAction}
+
+pub actions-back : (as′ : List Action) → length as′ ≤ 2 → firstActions (length as′) (places as′) ≡ as′
+unfolding places
+actions-back [] h = refl
+actions-back (a ∷ []) h = refl
+actions-back (a ∷ b ∷ []) h = refl
+actions-back (a ∷ b ∷ c ∷ rest) h = absurd (omega (arith, h))
 
 module _ (o : Outcome) (p : Port) (m : MaybeMeasurement) (n : ℕ) (r : Bool) where
   -- an action goes behind those that are there, while there is a place

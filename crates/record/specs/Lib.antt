@@ -1,12 +1,10 @@
--- To be believed: `Ids`, `Record`, `Fit`, `Answers`. What follows from them: `Same`, which is equality by `SameLaws`, the laws and the examples.
+-- To be believed: `Ids`, `Record`, `Answers`. What follows from them: `Same`, which is equality by `SameLaws`, the laws and the examples.
 pub mod Ids
 pub mod Record
-pub mod Fit
 pub mod Same
 pub mod Answers
 pub mod JoinedLaws
 pub mod ExactLaws
 pub mod SameLaws
-pub mod FitLaws
 pub mod AnswersLaws
 pub mod Examples

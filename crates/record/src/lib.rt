@@ -5,7 +5,6 @@
 mod answers;
 pub mod equality;
 mod exchanges;
-pub mod fitness;
 mod parts;
 pub mod sequence;
 

@@ -6,7 +6,7 @@ use lib.IntN.{_+ℤ_, _-ℤ_}
 use Rattle.time.specs.Units.{time, timeOf, duration, durationOf, correction}
 use Rattle.rules.specs.Names.{TimeAnswer, DurationAnswer, TimerAnswer, MessageAnswer, Message, Time, Duration, Header, Identity, MaybeTime, MaybeIdentity, Exchange, SlaveState, PortState, PeerState, Port, Outcome}
 use Rattle.record.specs.Record.{asSlave, isSlave}
-use Rattle.record.specs.Fit.{there, full}
+use Rattle.fitness.specs.Fit.{there, full}
 use Rattle.rules.specs.Worked.{Worked, worked, refused, _then_, aTime, aDuration, aMessage, aTimer, lessCorrection, plusCorrection, elapsed, lessDuration}
 use Rattle.rules.specs.Events.{Done, changed}
 use Rattle.rules.specs.Measuring.{complete, peerComplete, settle}

@@ -7,7 +7,7 @@ use lib.IntN.{ℤ}
 use Rattle.wire.specs.Layout.{twoStep}
 use Rattle.time.specs.Units.{time}
 use Rattle.record.specs.Same.{sameIdentity}
-use Rattle.record.specs.Fit.{there, unanswered}
+use Rattle.fitness.specs.Fit.{there, unanswered}
 use Rattle.rules.specs.Names.{Time, Header, Identity, MaybeTime, MaybeIdentity, PeerState, Port}
 use Rattle.rules.specs.Worked.{Worked}
 use Rattle.rules.specs.Exchanges.{Change, stays, becomes, awaited, withResponse, responded, respondedLater, peerStamped}

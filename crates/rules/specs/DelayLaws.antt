@@ -8,7 +8,7 @@ use lib.IntN.{ℤ, _-ℤ_}
 use Rattle.rules.specs.Names.{Time, Header, Identity, MaybeTime, Exchange, SlaveState, Context, Port}
 use Rattle.time.specs.Units.{time, timeOf, correction}
 use Rattle.record.specs.Record.{withSlave, withDelay}
-use Rattle.record.specs.Fit.{there, full, peerFull}
+use Rattle.fitness.specs.Fit.{there, full, peerFull}
 use Rattle.record.specs.Same.{sameIdentity}
 use Rattle.rules.specs.Worked.{Worked, worked, _then_, lessCorrection, aTime}
 use Rattle.rules.specs.Events.{Done, nothing}

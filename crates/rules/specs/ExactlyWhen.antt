@@ -8,7 +8,7 @@ use lib.Dec.{eqb}
 use borrow.Author.Tests.{eq-eqb}
 use Rattle.rules.specs.Names.{Port, Outcome}
 use Rattle.wire.specs.BytesLaws.{both}
-use Rattle.record.specs.Fit.{unfit}
+use Rattle.fitness.specs.Fit.{unfit}
 use Rattle.record.specs.Answers.{numberOf}
 use Rattle.rules.specs.Events.{Event}
 use Rattle.rules.specs.Table.{row1, row3, row4, row5, row6, row8, table, firstHit}

@@ -4,7 +4,7 @@ use mathlib.Core.Bool.{Bool, false, cond, _&&_, not}
 use lib.Dec.{eqb}
 use Rattle.rules.specs.Names.{Time, Identity, Header, MaybeTime, MaybeIdentity, Exchange, PeerState}
 use Rattle.wire.specs.Layout.{twoStep}
-use Rattle.record.specs.Fit.{there}
+use Rattle.fitness.specs.Fit.{there}
 use Rattle.record.specs.Same.{sameIdentity}
 use Rattle.rules.specs.Worked.{Worked, worked, _then_}
 

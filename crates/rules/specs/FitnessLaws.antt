@@ -15,8 +15,8 @@ use Rattle.wire.specs.LayoutLaws.{timestamp-body}
 use Rattle.wire.specs.Reading.{readOf}
 use Rattle.wire.specs.ReadingLaws.{IsMessage, message-is}
 use Rattle.record.specs.Record.{withSync, withDelay, withSlave, withPeer}
-use Rattle.record.specs.Fit.{timeOut, configOut, unfit}
-use Rattle.record.specs.FitLaws.{FitSync, FitDelay, FitState, FitPeer, IsFit, fit-is, fit-when}
+use Rattle.fitness.specs.Fit.{timeOut, configOut, unfit}
+use Rattle.fitness.specs.FitLaws.{FitSync, FitDelay, FitState, FitPeer, IsFit, fit-is, fit-when}
 use Rattle.rules.specs.Names.{Time, Header, Body, MaybeDuration, Exchange, SlaveState, PortState, PeerState, Port, Context, NewState, Outcome, Reading}
 use Rattle.rules.specs.Worked.{lessCorrection, plusCorrection}
 use Rattle.rules.specs.Events.{Event, event, general, stamp, syncTimer, delayTimer, filterAnswer, setState, Done}

@@ -5,7 +5,7 @@ use lib.IntN.{_+ℤ_, _-ℤ_}
 use Rattle.time.specs.Units.{time, timeWords, durationWords, correction}
 use Rattle.wire.specs.Layout.{twoStep}
 use Rattle.record.specs.Record.{asSlave, withDelay, withState, withPeer, slaveOf}
-use Rattle.record.specs.Fit.{there, full}
+use Rattle.fitness.specs.Fit.{there, full}
 use Rattle.record.specs.Same.{sameIdentity}
 use Rattle.rules.specs.Names.{Body, Time, Header, Identity, MaybeTime, MaybeDuration, MaybeIdentity, Exchange, PortState, PeerState, Mechanism, Port, Context, NewState}
 use Rattle.rules.specs.Events.{Event, event, general, stamp, syncTimer, delayTimer, filterAnswer, setState, reading}

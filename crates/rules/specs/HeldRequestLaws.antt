@@ -6,11 +6,11 @@ use lib.Dec.{eqb}
 use borrow.Author.Tests.{eqb-true}
 use lib.IntN.{ℤ, _+ℤ_, _-ℤ_}
 use Rattle.time.specs.Units.{time, timeWords, timeOf, correction}
-use Rattle.time.specs.Timers.{delayTimerOf}
+use Rattle.timers.specs.Timers.{delayTimerOf}
 use Rattle.wire.specs.BytesLaws.{neither}
 use Rattle.wire.specs.Layout.{twoStep}
 use Rattle.record.specs.Record.{withDelay, withState, withSlave, withPeer}
-use Rattle.record.specs.Fit.{slaveFull, full, peerFull}
+use Rattle.fitness.specs.Fit.{slaveFull, full, peerFull}
 use Rattle.record.specs.Same.{sameIdentity}
 use Rattle.rules.specs.Names.{Time, Header, Identity, MaybeTime, MaybeIdentity, Exchange, SlaveState, PortState, PeerState, Mechanism, Port, Context}
 use Rattle.rules.specs.Worked.{Worked, worked, _then_, aTime, lessCorrection, plusCorrection}

@@ -9,7 +9,7 @@ use Rattle.time.specs.Laws.{time-is, time-in, duration-is, duration-in}
 use Rattle.wire.specs.BytesLaws.{neither}
 use Rattle.wire.specs.Layout.{twoStep}
 use Rattle.record.specs.Record.{withSync, withState, withSlave}
-use Rattle.record.specs.Fit.{there, full, peerFull}
+use Rattle.fitness.specs.Fit.{there, full, peerFull}
 use Rattle.record.specs.Same.{sameIdentity}
 use Rattle.rules.specs.Names.{TimeAnswer, DurationAnswer, Time, Duration, Header, MaybeTime, Measurement, Exchange, SlaveState, PortState, Port}
 use Rattle.rules.specs.Worked.{Worked, _then_, aTime, aDuration, lessCorrection, plusCorrection, elapsed, lessDuration}

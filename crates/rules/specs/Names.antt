@@ -3,7 +3,7 @@ pub use Rattle.time.specs.declared.Duration.{Duration}
 pub use Rattle.time.specs.declared.DurationAnswer.{DurationAnswer}
 pub use Rattle.time.specs.declared.Time.{Time}
 pub use Rattle.time.specs.declared.TimeAnswer.{TimeAnswer}
-pub use Rattle.time.specs.declared.timer.TimerAnswer.{TimerAnswer}
+pub use Rattle.timers.specs.declared.TimerAnswer.{TimerAnswer}
 pub use Rattle.time.specs.declared.WireTimestamp.{WireTimestamp}
 pub use Rattle.wire.specs.declared.Body.{Body}
 pub use Rattle.wire.specs.declared.Header.{Header}

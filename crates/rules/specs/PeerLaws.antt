@@ -11,7 +11,7 @@ use Rattle.time.specs.Units.{time, timeOf, correction}
 use Rattle.wire.specs.Layout.{twoStep}
 use Rattle.wire.specs.BytesLaws.{apart}
 use Rattle.record.specs.Record.{withPeer}
-use Rattle.record.specs.Fit.{slaveFull, unanswered}
+use Rattle.fitness.specs.Fit.{slaveFull, unanswered}
 use Rattle.record.specs.Same.{sameIdentity}
 use Rattle.rules.specs.Worked.{Worked, worked, _then_, lessCorrection, plusCorrection, aTime}
 use Rattle.rules.specs.Events.{Done, nothing}

@@ -5,7 +5,7 @@ use mathlib.Core.List.{[]}
 use Prim.Native.Nat.{ℕ}
 use Rattle.wire.specs.BytesLaws.{apart}
 use Rattle.rules.specs.Names.{Port, MaybeMeasurement, Outcome}
-use Rattle.record.specs.Fit.{unfit}
+use Rattle.fitness.specs.Fit.{unfit}
 use Rattle.rules.specs.Worked.{Worked, worked, refused}
 use Rattle.rules.specs.Events.{Event, Done, Result, answered, refusal}
 use Rattle.record.specs.Record.{withSync, withDelay, withSlave, withPeer}

@@ -19,8 +19,8 @@ use Rattle.sent.specs.Messages.{headerFor, noFlag, noInterval, answerStamp, fol
 use Rattle.sent.specs.SentLaws.{InLimits, Sendable, Made, carrying-is, pdelay-resp-sends, pdelay-resp-follow-up-sends}
 use Rattle.sent.specs.CarriedLaws.{unitsOf, cutTo16, answer-means, follow-means}
 use Rattle.record.specs.Record.{withPeer}
-use Rattle.record.specs.Fit.{unfit}
-use Rattle.record.specs.FitLaws.{FitConfig, fit-is, config-is}
+use Rattle.fitness.specs.Fit.{unfit}
+use Rattle.fitness.specs.FitLaws.{FitConfig, fit-is, config-is}
 use Rattle.rules.specs.Names.{Time, Duration, Identity, Header, Body, Sender, Message, MessageAnswer, Reading, MaybeTime, MaybeIdentity, PeerState, Port, Context, Measurement, MaybeMeasurement}
 use Rattle.rules.specs.Worked.{worked}
 use Rattle.rules.specs.Events.{event, general, stamp, Done, Result, answered}

@@ -6,7 +6,7 @@ use mathlib.Core.List.{[]}
 use Prim.Native.Nat.{ℕ}
 use Rattle.rules.specs.Names.{Time, Duration, Header, Identity, Message, MessageAnswer, TimerAnswer, MaybeTime, MaybeIdentity, MaybeDuration, Measurement, Exchange, SlaveState, PortState, PeerState, Port, Mechanism, Context, Action, Outcome}
 use Rattle.time.specs.Units.{halfOf}
-use Rattle.time.specs.Timers.{syncTimerOf, delayTimerOf}
+use Rattle.timers.specs.Timers.{syncTimerOf, delayTimerOf}
 use Rattle.sent.specs.Messages.{followUpOf, delayRespOf, pDelayRespOf, pDelayRespFollowUpOf}
 use Rattle.record.specs.Record.{isMaster, isFaulty, isSlave, withSync, withDelay, withSlave, withPeer}
 use Rattle.record.specs.Same.{sameIdentity}

@@ -3,7 +3,7 @@ use Prim.Native.Nat.{ℕ}
 use mathlib.Core.Bool.{true, false, cond, _||_}
 use mathlib.Core.List.{List, [], _∷_}
 use Rattle.rules.specs.Names.{Body, Time, Identity, Header, Sender, SlaveState, PortState, PeerState, Mechanism, Config, Ids, Port, Context, NewState, MaybeDuration, MaybeNanoseconds, FilterUpdate, Action}
-use Rattle.time.specs.Timers.{syncTimerOf, delayTimerOf}
+use Rattle.timers.specs.Timers.{syncTimerOf, delayTimerOf}
 use Rattle.sent.specs.Messages.{syncOf, followUpOf, delayReqOf, delayRespOf, pDelayReqOf, pDelayRespOf, pDelayRespFollowUpOf}
 use Rattle.record.specs.Ids.{idAfter}
 use Rattle.record.specs.Record.{isMaster, isFaulty, isSlave, asSlave, withSync, withDelay, withState, withSlave, withPeer, withMean, withIds, slaveOf}

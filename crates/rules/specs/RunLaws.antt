@@ -7,7 +7,7 @@ use Rattle.time.specs.Units.{time, correction}
 use Rattle.time.specs.Laws.{IsTime}
 use Rattle.wire.specs.BytesLaws.{neither}
 use Rattle.record.specs.Record.{withSlave, withSync, withDelay, withPeer}
-use Rattle.record.specs.Fit.{full, unfit}
+use Rattle.fitness.specs.Fit.{full, unfit}
 use Rattle.rules.specs.Names.{Time, Header, Exchange, SlaveState, PeerState, Port, Outcome}
 use Rattle.rules.specs.Worked.{Worked, worked, _then_, lessCorrection, plusCorrection}
 use Rattle.rules.specs.Events.{Event, Done, Result, answered, nothing}

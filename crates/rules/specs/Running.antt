@@ -5,14 +5,14 @@ use mathlib.Core.List.{List, [], _∷_}
 use lib.IntN.{ℤ, pos}
 use Rattle.time.specs.declared.WireTimestamp.{WireTimestamp}
 use Rattle.time.specs.Units.{time, inTime, timeWords, timeOf, signed, duration, inDuration, durationWords, durationOf, wire, timeOfWire, wireOf, correction, half, halfOf}
-use Rattle.time.specs.Timers as Timers
+use Rattle.timers.specs.Timers as Timers
 use Rattle.wire.specs.Bytes.{number, fieldAt, spell, bytesOf}
 use Rattle.wire.specs.Layout.{sdoId, twoStep, twoStepFlag, timestampEntries, timestampAt, identityEntries, identityAt, headerEntries, headerOf, kindOf, bodyEntries, bodyOf, typeOf, messageEntries, messageBytes, sequenceId}
 use Rattle.wire.specs.Reading.{row4, row5, messageOf, readOf}
 use Rattle.sent.specs.Messages.{headerFor, noFlag, noInterval, zeroTimestamp, correctionOf, answerStamp, followStamp, syncOf, delayReqOf, followUpOf, pDelayReqOf, pDelayRespOf, delayRespOf, pDelayRespFollowUpOf}
 use Rattle.record.specs.Record.{withSlave, slaveOf, portOf}
 use Rattle.record.specs.Ids.{idAfter}
-use Rattle.record.specs.Fit.{timeOut, intervalOut, drawOut, sdoOut, minorOut, configOut, unfit}
+use Rattle.fitness.specs.Fit.{timeOut, intervalOut, drawOut, sdoOut, minorOut, configOut, unfit}
 use Rattle.record.specs.Same.{sameIdentity}
 use Rattle.rules.specs.Names.{Time, Duration, Identity, Sender, Body, Mechanism, Port, Action, Outcome, Measurement, MaybeMeasurement}
 use Rattle.rules.specs.Worked.{lessCorrection, plusCorrection, elapsed, lessDuration}

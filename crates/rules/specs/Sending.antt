@@ -6,7 +6,7 @@ use mathlib.Core.Option.{Option, none, some}
 use Prim.Native.Nat.{ℕ, _/_, _%_, _^_, _<_}
 use lib.IntN.{ℤ, pos, natAbs, _-ℤ_}
 use Rattle.time.specs.Units.{time, signed}
-use Rattle.time.specs.Timers as Timers
+use Rattle.timers.specs.Timers as Timers
 use Rattle.wire.specs.declared.MessageType.{MessageType}
 use Rattle.wire.specs.declared.MessageType.the-variants as M
 use Rattle.wire.specs.Layout.{row, typeOf, timestampOf, restIn, sdoId, twoStep, twoStepFlag}

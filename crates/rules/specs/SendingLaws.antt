@@ -8,8 +8,8 @@ use Prim.Native.Nat.{ℕ}
 use lib.Dec.{eqb}
 use borrow.Author.Tests.{not-false}
 use lib.ListN.{length}
-use Rattle.time.specs.Timers as Timers
-use Rattle.time.specs.TimerLaws.{sync-in, delay-in}
+use Rattle.timers.specs.Timers as Timers
+use Rattle.timers.specs.TimerLaws.{sync-in, delay-in}
 use Rattle.wire.specs.declared.MessageType.the-variants as M
 use Rattle.wire.specs.BytesLaws.{apart}
 use Rattle.wire.specs.Layout.{row, typeOf}
@@ -17,8 +17,8 @@ use Rattle.wire.specs.Reading.{readOf}
 use Rattle.wire.specs.LayoutLaws.{length-message}
 use Rattle.sent.specs.Messages.{followUpOf, delayRespOf}
 use Rattle.record.specs.Record.{isMaster, isSlave, asSlave, withSync, withDelay, withSlave, withPeer}
-use Rattle.record.specs.Fit.{drawOut}
-use Rattle.record.specs.FitLaws.{fit-is, FitConfig, config-is}
+use Rattle.fitness.specs.Fit.{drawOut}
+use Rattle.fitness.specs.FitLaws.{fit-is, FitConfig, config-is}
 use Rattle.rules.specs.Names.{Body, Time, Header, Message, TimerAnswer, MaybeNanoseconds, Mechanism, Config, SlaveState, PortState, Port, Context, Action, Reading, Outcome}
 use Rattle.rules.specs.Worked.{Worked, refused, _then_, aTimer}
 use Rattle.rules.specs.Events.{Event, event, general, stamp, syncTimer, delayTimer, filterAnswer, setState, Done, Result, packet, nothing, changed}

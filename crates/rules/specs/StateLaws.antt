@@ -7,9 +7,9 @@ use lib.IntN.{ℤ, _+ℤ_, _-ℤ_}
 use Rattle.time.specs.Units.{time, correction}
 use Rattle.wire.specs.Reading.{readOf}
 use Rattle.record.specs.Record.{stateNumber, isMaster, isFaulty, isSlave, withSync, withDelay, withSlave, withPeer}
-use Rattle.record.specs.Fit.{there}
+use Rattle.fitness.specs.Fit.{there}
 use Rattle.record.specs.Same.{sameIdentity}
-use Rattle.record.specs.FitLaws.{IsFit, fit-is}
+use Rattle.fitness.specs.FitLaws.{IsFit, fit-is}
 use Rattle.rules.specs.Names.{Time, Header, Identity, Body, MaybeDuration, Exchange, SlaveState, PortState, PeerState, Port, Context, NewState, Outcome, Reading}
 use Rattle.rules.specs.Worked.{Worked, worked, refused, lessCorrection, plusCorrection}
 use Rattle.rules.specs.Events.{Event, event, general, stamp, syncTimer, delayTimer, filterAnswer, setState, Done, Result, answered, changed}

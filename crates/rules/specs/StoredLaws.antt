@@ -7,8 +7,8 @@ use lib.IntN.{ℤ, _+ℤ_, _-ℤ_}
 use Rattle.time.specs.Units.{time, inTime, timeOf, correction}
 use Rattle.time.specs.Laws.{IsTime, time-is}
 use Rattle.wire.specs.Layout.{twoStep}
-use Rattle.record.specs.Fit.{there, full, unanswered, peerFull}
-use Rattle.record.specs.FitLaws.{FitTime, FitSync, FitDelay, FitPeer, peer-times-is, peer-times-when}
+use Rattle.fitness.specs.Fit.{there, full, unanswered, peerFull}
+use Rattle.fitness.specs.FitLaws.{FitTime, FitSync, FitDelay, FitPeer, peer-times-is, peer-times-when}
 use Rattle.rules.specs.Names.{TimeAnswer, Time, Header, Identity, MaybeTime, MaybeIdentity, Exchange, PeerState}
 use Rattle.rules.specs.Worked.{Worked, aTime, lessCorrection, plusCorrection}
 use Rattle.rules.specs.Exchanges.{Change, stays, becomes, awaited, received, twoStepSync, atOnce, oneStepSync, synced, sentAt, followedUp, delayAnswered, delayStamped, peerStamped, responded, respondedLater}

@@ -4,8 +4,8 @@ use mathlib.Core.Bool.{Bool, true, false, _||_}
 use Prim.Native.Nat.{ℕ}
 use Rattle.time.specs.Units.{halfOf}
 use Rattle.record.specs.Record.{isFaulty, withSync, withDelay, withSlave, withPeer}
-use Rattle.record.specs.Fit.{slaveFull, full, peerFull}
-use Rattle.record.specs.FitLaws.{FitSync, FitDelay, FitState}
+use Rattle.fitness.specs.Fit.{slaveFull, full, peerFull}
+use Rattle.fitness.specs.FitLaws.{FitSync, FitDelay, FitState}
 use Rattle.rules.specs.Names.{Duration, Identity, MaybeTime, Measurement, Exchange, SlaveState, PortState, PeerState, Port, Outcome}
 use Rattle.rules.specs.Worked.{Worked}
 use Rattle.rules.specs.Events.{Done, changed, nothing}

@@ -8,7 +8,7 @@ use Rattle.rules.specs.Names.{Time, Identity, Header, Body, PortState, C
 use Rattle.time.specs.Units.{time, correction}
 use Rattle.wire.specs.BytesLaws.{neither}
 use Rattle.record.specs.Record.{withState}
-use Rattle.record.specs.Fit.{syncTimeless, slaveFull, unfit, full, unanswered, peerFull, anyOut, slaveTimes, peerTimes, configOut}
+use Rattle.fitness.specs.Fit.{syncTimeless, slaveFull, unfit, full, unanswered, peerFull, anyOut, slaveTimes, peerTimes, configOut}
 use Rattle.record.specs.Same.{sameIdentity}
 use Rattle.rules.specs.Events.{nothing}
 use Rattle.rules.specs.Rules.{sync, followUp, delayResp, stamped, onEvent, onGeneral}

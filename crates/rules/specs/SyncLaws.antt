@@ -9,7 +9,7 @@ use Rattle.time.specs.Units.{time, correction}
 use Rattle.wire.specs.Layout.{twoStep}
 use Rattle.wire.specs.BytesLaws.{apart}
 use Rattle.record.specs.Record.{withSlave, withSync}
-use Rattle.record.specs.Fit.{there, full, timeless, peerFull}
+use Rattle.fitness.specs.Fit.{there, full, timeless, peerFull}
 use Rattle.record.specs.Same.{sameIdentity}
 use Rattle.rules.specs.Worked.{lessCorrection, plusCorrection}
 use Rattle.rules.specs.Events.{nothing}

@@ -6,15 +6,15 @@ use mathlib.Core.List.{List, [], _∷_, _++_}
 use borrow.Author.Tests.{not-false}
 use Rattle.rules.specs.Names.{Time, Header, Body, Reading, Kind, TimerAnswer, Mechanism, SlaveState, PortState, Port, Outcome}
 use Rattle.time.specs.Units.{timeWords, wire}
-use Rattle.time.specs.Timers.{inDraw, delayTimerOf}
-use Rattle.time.specs.TimerLaws.{sync-in, delay-in}
+use Rattle.timers.specs.Timers.{inDraw, delayTimerOf}
+use Rattle.timers.specs.TimerLaws.{sync-in, delay-in}
 use Rattle.wire.specs.Bytes.{Bytes}
 use Rattle.wire.specs.Layout.{headerOf, bodyOf, timestampAt, body}
 use Rattle.wire.specs.Reading as Wire
 use Rattle.wire.specs.ReadingLaws.{version-when, malformed-when, host-when, message-of-bytes, past-row5}
 use Rattle.record.specs.Record.{isMaster, asSlave}
-use Rattle.record.specs.Fit.{unfit, drawOut}
-use Rattle.record.specs.FitLaws.{FitConfig, config-is, fit-is}
+use Rattle.fitness.specs.Fit.{unfit, drawOut}
+use Rattle.fitness.specs.FitLaws.{FitConfig, config-is, fit-is}
 use Rattle.rules.specs.Worked.{Worked, worked, refused, _then_, aTimer}
 use Rattle.rules.specs.Events.{Event, event, general, stamp, syncTimer, delayTimer, filterAnswer, setState, Done, answered, nothing}
 use Rattle.rules.specs.Rules.{onEvent, onGeneral, stamped, request, syncTimerEnds, delayTimerEnds, filtered, stateSet}

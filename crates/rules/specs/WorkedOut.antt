@@ -9,7 +9,7 @@ use Rattle.time.specs.Units.{within, time, inTime, duration, inDuration, signed
 use Rattle.wire.specs.Layout.{twoStep}
 use Rattle.sent.specs.Messages.{inCorrection}
 use Rattle.record.specs.Record.{isMaster, asSlave}
-use Rattle.record.specs.Fit.{there}
+use Rattle.fitness.specs.Fit.{there}
 use Rattle.record.specs.Same.{sameIdentity}
 use Rattle.rules.specs.Events.{Event, event, general, stamp, syncTimer, delayTimer, filterAnswer, setState, reading}
 

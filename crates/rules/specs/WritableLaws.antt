@@ -13,7 +13,7 @@ use Rattle.wire.specs.ReadingLaws.{message-is}
 use Rattle.writing.specs.declared.Written.the-variants as W
 use Rattle.writing.specs.Writing.{writeOf}
 use Rattle.sent.specs.SentLaws.{InLimits, Sendable, sync-sends, delay-req-sends, pdelay-req-sends, follow-up-sends, delay-resp-sends, pdelay-resp-sends, pdelay-resp-follow-up-sends}
-use Rattle.record.specs.Fit.{unfit}
+use Rattle.fitness.specs.Fit.{unfit}
 use Rattle.rules.specs.Names.{Time, Header, Body, Message, Config, Context, Port}
 use Rattle.rules.specs.Worked.{Worked, worked}
 use Rattle.rules.specs.Events.{Event, event, general, stamp, syncTimer, delayTimer, filterAnswer, setState, Done}

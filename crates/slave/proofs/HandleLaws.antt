@@ -4,51 +4,21 @@ use mathlib.Core.Path.{_≡_, refl, ap, sym, _∙_}
 use mathlib.Core.Bool.{Bool, true, false, cond}
 use lib.IntN.{_+ℤ_, _-ℤ_}
 use Rattle.time.specs.Units.{time, timeOf, correction}
-use Rattle.time.specs.Timers.{delayTimerOf}
+use Rattle.timers.specs.Timers.{delayTimerOf}
 use Rattle.rules.specs.Names.{Time, TimeAnswer, TimerAnswer, Mechanism, Identity, Header, Exchange, PeerState, SlaveState, Port, Context, Outcome}
 use Rattle.rules.specs.Worked.{Worked, worked, refused, _then_, aTime, aTimer, lessCorrection, plusCorrection}
 use Rattle.rules.specs.Events.{Done, nothing}
-use Rattle.rules.specs.Measuring.{settle, measureSync, measureDelay, measurePeer, complete}
 use Rattle.rules.specs.Exchanges.{Change, synced, followedUp, delayAnswered, delayStamped, peerStamped, secondResponder}
 use Rattle.rules.specs.Rules.{fromMaster, toUs, keeping, sync, followUp, delayResp, becomesFaulty, peerAnswer, stamped, delaySent, request}
 use Rattle.record.specs.Record.{withSync, withDelay, withSlave, withPeer}
 use Rattle.record.specs.Same.{sameIdentity}
 use Rattle.exchanges.specs.Changing.{exchangeChange, peerChange}
 use Rattle.slave.specs.declared.Guard.{Guard}
-use Rattle.slave.specs.declared.Pair.{Pair}
-use Rattle.slave.specs.declared.PeerTimes.{PeerTimes}
-use Rattle.slave.specs.declared.MaybeSlave.{MaybeSlave}
-use Rattle.slave.specs.Taking.{pairOf, peerTimesOf, slaveIn, hearer, guardOf, keptExchange, keptPeer}
-use Rattle.slave.proofs.CaseLaws.{slave-is, pair-is, peer-times-are, heard-is, kept-is, kept-peer-is}
-
--- ---- extraction
-
-module _ (p : Port) where
-  pub settle-peer : (id : ℕ) (i : Identity) (t1 t2 t3 t4 : Time) → peerTimesOf (p .peer) ≡ PeerTimes.All id i t1 t2 t3 t4 → settle p ≡ measurePeer p id i t1 t2 t3 t4
-  unfolding settle
-  settle-peer id i t1 t2 t3 t4 e = peer-times-are (p .peer) (PeerTimes.All id i t1 t2 t3 t4) _ (measurePeer p) e
-
-  module _ (open′ : peerTimesOf (p .peer) ≡ PeerTimes.Missing) where
-    pub settle-nobody : slaveIn (p .state) ≡ MaybeSlave.None → settle p ≡ nothing p
-    unfolding settle
-    settle-nobody e = peer-times-are (p .peer) PeerTimes.Missing _ (measurePeer p) open′ ∙ slave-is (p .state) MaybeSlave.None (nothing p) _ e
-
-    module _ (s : SlaveState) (slave : slaveIn (p .state) ≡ MaybeSlave.Some s) where
-      settle-slave : settle p ≡ complete (s .sync) (complete (s .delay) (nothing p) (measureDelay p s)) (measureSync p s)
-      unfolding settle
-      settle-slave = peer-times-are (p .peer) PeerTimes.Missing _ (measurePeer p) open′ ∙ slave-is (p .state) (MaybeSlave.Some s) (nothing p) _ slave
-
-      pub settle-sync : (send receive : Time) → pairOf (s .sync) ≡ Pair.Both send receive → settle p ≡ measureSync p s send receive
-      settle-sync send receive e = settle-slave ∙ pair-is (s .sync) (Pair.Both send receive) _ (measureSync p s) e
-
-      settle-no-sync : pairOf (s .sync) ≡ Pair.Missing → settle p ≡ complete (s .delay) (nothing p) (measureDelay p s)
-      settle-no-sync e = settle-slave ∙ pair-is (s .sync) Pair.Missing _ (measureSync p s) e
-
-      pub settle-delay : (send receive : Time) → pairOf (s .sync) ≡ Pair.Missing → pairOf (s .delay) ≡ Pair.Both send receive → settle p ≡ measureDelay p s send receive
-      settle-delay send receive e f = settle-no-sync e ∙ pair-is (s .delay) (Pair.Both send receive) _ (measureDelay p s) f
-
-      pub settle-open : pairOf (s .sync) ≡ Pair.Missing → pairOf (s .delay) ≡ Pair.Missing → settle p ≡ nothing p
-      settle-open e f = settle-no-sync e ∙ pair-is (s .delay) Pair.Missing _ (measureDelay p s) f
+use Rattle.measurement.specs.declared.MaybeSlave.{MaybeSlave}
+use Rattle.measurement.specs.Taking.{slaveIn}
+use Rattle.measurement.specs.TakingLaws.{slave-is}
+use Rattle.slave.specs.Keeping.{hearer, guardOf, keptExchange, keptPeer}
+use Rattle.slave.proofs.CaseLaws.{heard-is, kept-is, kept-peer-is}
 
 -- ---- a Slave's messages, which are heard or not; then the sum; then the exchange
 

@@ -1,4 +1,3 @@
 -- Lemmas that several of the functions' proofs cite.
 mod CaseLaws
-mod MeasureLaws
 mod HandleLaws

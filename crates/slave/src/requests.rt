@@ -3,11 +3,11 @@ ghost use mathlib.Core.Path.{_≡_};
 ghost use Rattle.rules.specs.Names.{Mechanism};
 ghost use Rattle.rules.specs.Rules.{delaySent, peerSent, request, delayTimerEnds};
 ghost use Rattle.handling.specs.Handling.{handedOn, handledOf};
-use crate::MaybeSlave;
 use crate::Measuring;
-use crate::complete;
 use handling::Handled;
 use handling::sender_of;
+use measurement::MaybeSlave;
+use measurement::complete;
 use record::Action;
 use record::Context;
 use record::Exchange;
@@ -20,8 +20,8 @@ use record::PeerState;
 use record::Port;
 use record::SlaveState;
 use record::sequence::id_after;
-use time::timer::TimerAnswer;
-use time::timer::delay_timer;
+use timers::TimerAnswer;
+use timers::delay_timer;
 
 // A DelayReq goes out behind its timer, and takes the place of the one before.
 fn delay_req_sent(port: Port, s: SlaveState, ns: u64) -> Handled

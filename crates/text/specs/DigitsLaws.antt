@@ -4,14 +4,16 @@ use mathlib.Core.Path.{_≡_, refl, sym, _∙_, ap}
 use mathlib.Core.Bool.{Bool, true, false, cond}
 use mathlib.Core.List.{List, [], _∷_, _++_}
 use native.Mathlib.Omega.{arith}
+use native.Mathlib.Nat.{add-zero, zero-add}
 use native.Mathlib.Numerals.{add-one}
-use borrow.Author.Tests.{lt-ltb, le-ltb}
-use lib.ListN.{length, getD, drop, length-append, drop-of-length-le}
-use lib.Seq.{drop-cons}
+use borrow.Author.Tests.{lt-ltb, le-ltb, ltb-true}
+use lib.ListN.{length, getD, set, drop, length-append, drop-of-length-le}
+use lib.Seq.{sets, drop-cons}
 use lib.Dec.{ltb}
-use Rattle.text.specs.Digits.{decimalIn, hexIn, hexOf, glyphOf}
+use Rattle.text.specs.Ascii.{ascii}
+use Rattle.text.specs.Digits.{decimalIn, lastIn, hexIn, hexOf, glyphOf, glyphs}
 use Rattle.text.specs.Page.{Page, page, typed, Wrote}
-use Rattle.text.specs.PageLaws.{typed-append, wrote-then, wrote-as}
+use Rattle.text.specs.PageLaws.{typed-append, wrote-then, wrote-as, wrote-laid, sets-last}
 
 pub length-hex : (k n : ℕ) → length (hexIn k n) ≡ k
 unfolding hexIn
@@ -31,6 +33,98 @@ length-decimal (suc k) n = by (ltb n 10) (length-decimal k (n / 10))
     by : (b : Bool) → length (decimalIn k (n / 10)) ≤ k → length (cond b ((48 + n) ∷ []) (decimalIn k (n / 10) ++ ((48 + n % 10) ∷ []))) ≤ suc k
     by true h = omega arith
     by false h = omega (arith, length-append (decimalIn k (n / 10)) ((48 + n % 10) ∷ []))
+
+pub length-last : (k n : ℕ) → length (lastIn k n) ≡ k
+unfolding lastIn
+length-last zero n = refl
+length-last (suc k) n = length-append (lastIn k (n / 10)) ((48 + n % 10) ∷ []) ∙ omega (arith, length-last k (n / 10))
+
+-- digit before digit: what is left to lay is one shorter
+one-less : (l w : List ℕ) (at i j x : ℕ) → length w ≡ j → i ≡ j → sets (set l (at + i) x) at w ≡ sets l at (w ++ (x ∷ []))
+one-less l w at i j x n e = ap (λ (k : ℕ). sets (set l (at + k) x) at w) (e ∙ sym n) ∙ sets-last l w at x
+
+pub hex-next : (at i m x : ℕ) (l : List ℕ) → 0 < i → x ≡ glyphOf (m % 16)
+    → sets (set l (at + (i - 1)) x) at (hexIn (i - 1) (m / 16)) ≡ sets l at (hexIn i m)
+unfolding hexIn
+hex-next at zero m x l h g = absurd (omega (arith, h))
+hex-next at (suc i) m x l h g =
+    let e : suc i - 1 ≡ i = omega arith in
+    ap (λ (k : ℕ). sets (set l (at + (suc i - 1)) x) at (hexIn k (m / 16))) e
+    ∙ one-less l (hexIn i (m / 16)) at (suc i - 1) i x (length-hex i (m / 16)) e
+    ∙ ap (λ (y : ℕ). sets l at (hexIn i (m / 16) ++ (y ∷ []))) g
+
+pub last-next : (at i m x : ℕ) (l : List ℕ) → 0 < i → x ≡ 48 + m % 10
+    → sets (set l (at + (i - 1)) x) at (lastIn (i - 1) (m / 10)) ≡ sets l at (lastIn i m)
+unfolding lastIn
+last-next at zero m x l h g = absurd (omega (arith, h))
+last-next at (suc i) m x l h g =
+    let e : suc i - 1 ≡ i = omega arith in
+    ap (λ (k : ℕ). sets (set l (at + (suc i - 1)) x) at (lastIn k (m / 10))) e
+    ∙ one-less l (lastIn i (m / 10)) at (suc i - 1) i x (length-last i (m / 10)) e
+    ∙ ap (λ (y : ℕ). sets l at (lastIn i (m / 10) ++ (y ∷ []))) g
+
+pub hex-laid : (at i m : ℕ) (l r : List ℕ) → i ≡ 0 → sets l at (hexIn i m) ≡ r → l ≡ r
+unfolding hexIn
+hex-laid at i m l r h p = sym (ap (λ (k : ℕ). sets l at (hexIn k m)) h) ∙ p
+
+pub last-laid : (at i m : ℕ) (l r : List ℕ) → i ≡ 0 → sets l at (lastIn i m) ≡ r → l ≡ r
+unfolding lastIn
+last-laid at i m l r h p = sym (ap (λ (k : ℕ). sets l at (lastIn k m)) h) ∙ p
+
+-- the table that a digit is looked up in
+pub glyph-at : (n i k : ℕ) → k < n → getD (glyphs i n) k 0 ≡ glyphOf (i + k)
+unfolding glyphs
+glyph-at zero i k h = absurd (omega (arith, h))
+glyph-at (suc n) i zero h = ap glyphOf (sym (add-zero i))
+glyph-at (suc n) i (suc k) h = glyph-at n (suc i) k (omega (arith, h)) ∙ ap glyphOf (omega arith)
+
+the-table : ascii "0123456789abcdef" ≡ glyphs 0 16
+unfolding glyphs glyphOf
+the-table = refl
+
+pub looked-up : (d : ℕ) → d < 16 → getD (ascii "0123456789abcdef") d 0 ≡ glyphOf d
+looked-up d h = ap (λ (l : List ℕ). getD l d 0) the-table ∙ glyph-at 16 0 d h ∙ ap glyphOf (zero-add d)
+
+-- a number's own digits are its last ones, if there are as many
+pub decimal-last : (k n : ℕ) → lastIn (length (decimalIn k n)) n ≡ decimalIn k n
+unfolding decimalIn lastIn
+decimal-last zero n = refl
+decimal-last (suc k) n = by (ltb n 10) refl (decimal-last k (n / 10))
+  where
+    by : (b : Bool) → ltb n 10 ≡ b → lastIn (length (decimalIn k (n / 10))) (n / 10) ≡ decimalIn k (n / 10)
+        → lastIn (length (cond b ((48 + n) ∷ []) (decimalIn k (n / 10) ++ ((48 + n % 10) ∷ [])))) n
+        ≡ cond b ((48 + n) ∷ []) (decimalIn k (n / 10) ++ ((48 + n % 10) ∷ []))
+    by true h p =
+        let small : n < 10 = ltb-true n 10 h in
+        let same : 48 + n % 10 ≡ 48 + n = omega arith in
+        ap (λ (x : ℕ). x ∷ []) same
+    by false h p =
+        let more : length (decimalIn k (n / 10) ++ ((48 + n % 10) ∷ [])) ≡ suc (length (decimalIn k (n / 10)))
+        = length-append (decimalIn k (n / 10)) ((48 + n % 10) ∷ []) ∙ add-one (length (decimalIn k (n / 10))) in
+        ap (λ (j : ℕ). lastIn j n) more ∙ ap (λ (l : List ℕ). l ++ ((48 + n % 10) ∷ [])) p
+
+-- digits that were laid where there is room for them
+pub hex-wrote : {d e : List ℕ} {at : ℕ} (k n : ℕ) → at + k ≤ length d → e ≡ sets d at (hexIn k n) → Wrote d at (hexIn k n) e (at + k)
+hex-wrote k n h x = wrote-laid (hexIn k n) (omega (arith, length-hex k n)) x (omega (arith, length-hex k n))
+
+pub decimal-wrote : {d e : List ℕ} {at : ℕ} (k n w : ℕ) → w ≡ length (decimalIn k n) → at + w ≤ length d → e ≡ sets d at (lastIn w n)
+    → Wrote d at (decimalIn k n) e (at + w)
+decimal-wrote {d} {e} {at} k n w s h x =
+    let same : lastIn w n ≡ decimalIn k n = ap (λ (j : ℕ). lastIn j n) s ∙ decimal-last k n in
+    wrote-laid (decimalIn k n) (omega (arith, s)) (x ∙ ap (λ (l : List ℕ). sets d at l) same) (omega (arith, s))
+
+pub width-one : (k n : ℕ) → (k ≡ 0 → ⊥) → n < 10 → 1 ≡ length (decimalIn k n)
+unfolding decimalIn
+width-one zero n h l = absurd (h refl)
+width-one (suc k) n h l = simp (lt-ltb n 10 l)
+
+pub width-more : (k n : ℕ) → (k ≡ 0 → ⊥) → 10 ≤ n → length (decimalIn (k - 1) (n / 10)) + 1 ≡ length (decimalIn k n)
+unfolding decimalIn
+width-more zero n h l = absurd (h refl)
+width-more (suc k) n h l =
+    let j : suc k - 1 ≡ k = omega arith in
+    ap (λ (i : ℕ). length (decimalIn i (n / 10)) + 1) j ∙ sym (length-append (decimalIn k (n / 10)) ((48 + n % 10) ∷ []))
+    ∙ simp (le-ltb n 10 l)
 
 pub hex-none : (k n : ℕ) → k ≡ 0 → [] ≡ hexIn k n
 unfolding hexIn

@@ -4,10 +4,11 @@ use mathlib.Core.Path.{_≡_, refl, sym, _∙_, ap}
 use mathlib.Core.Bool.{Bool, true, false, cond}
 use mathlib.Core.List.{List, [], _∷_, _++_, append-assoc}
 use native.Mathlib.Omega.{arith}
+use native.Mathlib.Nat.{add-zero}
 use native.Mathlib.Numerals.{add-one}
 use borrow.Author.Tests.{lt-ltb, le-ltb}
 use lib.ListN.{length, getD, set, take, drop, length-set, drop-of-length-le}
-use lib.Seq.{sets, sets-eq, drop-cons}
+use lib.Seq.{sets, sets-eq, set-comm, drop-cons}
 use lib.Dec.{ltb}
 use Rattle.text.specs.Page.{Page, page, typedOne, typed, Wrote}
 
@@ -63,6 +64,20 @@ typed-sets (x ∷ w) d at h =
     let one : typedOne (page d at) x ≡ page (set d at x) (suc at) = sym (wrote-byte d at x room .text) ∙ ap (λ (k : ℕ). page (set d at x) k) (add-one at) in
     let fits : suc at + length w ≤ length (set d at x) = omega (arith, length-set d at x) in
     ap (λ (p : Page). typed p w) one ∙ typed-sets w (set d at x) (suc at) fits ∙ ap (λ (k : ℕ). page (sets (set d at x) (suc at) w) k) (omega arith)
+
+-- a text that was laid where there is room for it
+pub wrote-laid : {d e : List ℕ} {at k : ℕ} (w : List ℕ) → at + length w ≤ length d → e ≡ sets d at w → k ≡ at + length w → Wrote d at w e k
+wrote-laid {d} {e} {at} {k} w h x y =
+    record { text = ap (λ (l : List ℕ). page l k) x ∙ ap (λ (i : ℕ). page (sets d at w) i) y ∙ sym (typed-sets w d at h) }
+
+-- the last byte of a text may be laid before the others
+pub sets-last : (l w : List ℕ) (i x : ℕ) → sets (set l (i + length w) x) i w ≡ sets l i (w ++ (x ∷ []))
+sets-last l [] i x = ap (λ (k : ℕ). set l k x) (add-zero i)
+sets-last l (v ∷ w) i x =
+    let apart : i + suc (length w) ≡ i → ⊥ = λ e. omega (arith, e) in
+    let place : i + suc (length w) ≡ suc i + length w = omega arith in
+    ap (λ (z : List ℕ). sets z (suc i) w) (set-comm l (i + suc (length w)) i x v apart ∙ ap (λ (k : ℕ). set (set l i v) k x) place)
+    ∙ sets-last (set l i v) w (suc i) x
 
 module _ {d w e : List ℕ} {k : ℕ} where
   pub wrote-whole : {at : ℕ} → Wrote d at w e k → at ≤ length d → at + length w ≤ length d

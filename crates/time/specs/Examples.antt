@@ -7,9 +7,7 @@ use Rattle.time.specs.declared.DurationAnswer.the-variants as D
 use Rattle.time.specs.declared.WordsAnswer.the-variants as O
 use Rattle.time.specs.declared.ReadAnswer.the-variants as R
 use Rattle.time.specs.declared.WireAnswer.the-variants as W
-use Rattle.time.specs.declared.timer.TimerAnswer.the-variants as M
 use Rattle.time.specs.Units.{inTime, timeOf, timeOfWords, signed, duration, inDuration, durationOf, wire, timeOfWire, wireOf, correction, half}
-use Rattle.time.specs.Timers.{interval, inInterval, inDraw, syncTimer, delayTimer, syncTimerOf, delayTimerOf}
 
 -- ---- halves (01's example H, and the lowest duration)
 
@@ -130,39 +128,3 @@ last-sent = refl
 not-sent : wireOf (pos (2 ^ 48 * 10 ^ 9 * 2 ^ 32)) ≡ W.Out
 unfolding wireOf
 not-sent = refl
-
--- ---- timers (01's example J, and the ends of the limits)
-
--- rounded up, from 999,999,999.9999998
-the-draw : delayTimerOf 0 (2 ^ 51 - 1) ≡ M.Value 1000000000
-unfolding delayTimerOf delayTimer inInterval inDraw interval signed
-the-draw = refl
-
--- rounded down, from 0.0000002
-lowest-draw : delayTimerOf 0 0 ≡ M.Value 0
-unfolding delayTimerOf delayTimer inInterval inDraw interval signed
-lowest-draw = refl
-
-longest-draw : delayTimerOf 16 (2 ^ 52 - 1) ≡ M.Value 131072000000000
-unfolding delayTimerOf delayTimer inInterval inDraw interval signed
-longest-draw = refl
-
-past-the-draws : delayTimerOf 16 (2 ^ 52) ≡ M.Draw
-unfolding delayTimerOf delayTimer inInterval inDraw interval signed
-past-the-draws = refl
-
-past-the-intervals : delayTimerOf 17 (2 ^ 52) ≡ M.Interval
-unfolding delayTimerOf delayTimer inInterval inDraw interval signed
-past-the-intervals = refl
-
-shortest-sync : syncTimerOf (256 - 9) ≡ M.Value 1953125
-unfolding syncTimerOf syncTimer inInterval interval signed
-shortest-sync = refl
-
-longest-sync : syncTimerOf 16 ≡ M.Value 65536000000000
-unfolding syncTimerOf syncTimer inInterval interval signed
-longest-sync = refl
-
-below-the-intervals : syncTimerOf (256 - 10) ≡ M.Interval
-unfolding syncTimerOf syncTimer inInterval interval signed
-below-the-intervals = refl

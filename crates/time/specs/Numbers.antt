@@ -12,8 +12,6 @@ use Rattle.time.specs.declared.ReadAnswer.{ReadAnswer}
 use Rattle.time.specs.declared.ReadAnswer.the-variants as R
 use Rattle.time.specs.declared.WireAnswer.{WireAnswer}
 use Rattle.time.specs.declared.WireAnswer.the-variants as W
-use Rattle.time.specs.declared.timer.TimerAnswer.{TimerAnswer}
-use Rattle.time.specs.declared.timer.TimerAnswer.the-variants as M
 use Rattle.time.specs.Units.{time, duration}
 
 pub record Told : Type 0 where
@@ -49,9 +47,3 @@ toldRead R.Seconds = refusal 5
 abbrev pub toldWire : WireAnswer → Told
 toldWire (W.Value w f) = answered (pos (w .seconds) ∷ pos (w .nanos) ∷ pos f ∷ [])
 toldWire W.Out = refusal 7
-
--- nanoseconds; 2 where the record's interval is out of limits, 3 where the event's draw is
-abbrev pub toldTimer : TimerAnswer → Told
-toldTimer (M.Value ns) = answered (pos ns ∷ [])
-toldTimer M.Interval = refusal 2
-toldTimer M.Draw = refusal 3

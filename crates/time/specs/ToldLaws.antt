@@ -12,16 +12,13 @@ use Rattle.time.specs.declared.WireTimestamp.{WireTimestamp}
 use Rattle.time.specs.declared.WordsAnswer.the-variants as O
 use Rattle.time.specs.declared.ReadAnswer.the-variants as R
 use Rattle.time.specs.declared.WireAnswer.the-variants as W
-use Rattle.time.specs.declared.timer.TimerAnswer.{TimerAnswer}
-use Rattle.time.specs.declared.timer.TimerAnswer.the-variants as M
 use Rattle.time.specs.Units.{spelled, time, inTime, timeWords, timeOf, timeOfWords, wire, timeOfWire, inDuration, durationWords, durationOf, wireOf}
-use Rattle.time.specs.Timers.{interval, inInterval, inDraw, syncTimer, syncTimerOf, delayTimer, delayTimerOf}
-use Rattle.time.specs.Numbers.{Told, answered, refusal, toldTime, toldDuration, toldWords, toldRead, toldWire, toldTimer}
+use Rattle.time.specs.Numbers.{answered, refusal, toldTime, toldDuration, toldWords, toldRead, toldWire}
 use Rattle.time.specs.WireLaws.{read-in, read-is}
 use Rattle.time.specs.Laws.{time-in, time-is, duration-in, duration-is}
 
 -- a function of what a test picks
-of-cond : {A B : Type 0} (f : A → B) (b : Bool) (x y : A) → f (cond b x y) ≡ cond b (f x) (f y)
+pub of-cond : {A B : Type 0} (f : A → B) (b : Bool) (x y : A) → f (cond b x y) ≡ cond b (f x) (f y)
 of-cond f true x y = refl
 of-cond f false x y = refl
 
@@ -59,17 +56,3 @@ told-wire n =
     of-cond toldWire (ltb (n / 2 ^ 32 / 10 ^ 9) (2 ^ 48))
     (W.Value (record { seconds = n / 2 ^ 32 / 10 ^ 9; nanos = n / 2 ^ 32 % 10 ^ 9 }) (n % 2 ^ 32 / 2 ^ 16))
     W.Out
-
-pub told-sync : (byte : ℕ) → toldTimer (syncTimerOf byte) ≡ cond (inInterval (interval byte)) (answered (pos (syncTimer (interval byte)) ∷ [])) (refusal 2)
-unfolding syncTimerOf
-told-sync byte = of-cond toldTimer (inInterval (interval byte)) (M.Value (syncTimer (interval byte))) M.Interval
-
-module _ (byte k : ℕ) where
-  abbrev drawn : TimerAnswer
-  drawn = cond (inDraw k) (M.Value (delayTimer (interval byte) k)) M.Draw
-
-  pub told-delay : toldTimer (delayTimerOf byte k) ≡ cond (inInterval (interval byte)) (cond (inDraw k) (answered (pos (delayTimer (interval byte) k) ∷ [])) (refusal 3)) (refusal 2)
-  unfolding delayTimerOf
-  told-delay =
-      of-cond toldTimer (inInterval (interval byte)) drawn M.Interval
-      ∙ ap (λ (x : Told). cond (inInterval (interval byte)) x (refusal 2)) (of-cond toldTimer (inDraw k) (M.Value (delayTimer (interval byte) k)) M.Draw)

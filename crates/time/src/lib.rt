@@ -6,7 +6,6 @@ ghost use Prim.Native.Nat.{_+_, _*_, _/_, _^_, _≤_};
 ghost use lib.IntN.{subℕ, _+ℤ_, _-ℤ_};
 ghost use Rattle.time.specs.Units.{spelled, time, inTime, timeOf, timeOfWords, duration, durationOf, timeOfWire, wireOf, correction, halfOf};
 
-pub mod timer;
 mod words;
 
 use words::Wide;

@@ -13,8 +13,7 @@ use time::TimeAnswer;
 use time::WireAnswer;
 use time::WireTimestamp;
 use time::WordsAnswer;
-use time::timer;
-use time::timer::TimerAnswer;
+use timers::TimerAnswer;
 ghost use Prim.Native.Nat.{_+_, _≤_, _<_};
 
 struct Words {
@@ -147,10 +146,10 @@ fn ask(letter: u8, w: Words) {
             let half = one.half();
             both(half.hi, half.lo);
         }
-        b'n' => number(timer::is_interval((w.a % 256) as u8) as u64),
-        b'k' => number(timer::is_draw(w.b) as u64),
-        b'y' => tell_timer(timer::sync_timer((w.a % 256) as u8)),
-        b'z' => tell_timer(timer::delay_timer((w.a % 256) as u8, w.b)),
+        b'n' => number(timers::is_interval((w.a % 256) as u8) as u64),
+        b'k' => number(timers::is_draw(w.b) as u64),
+        b'y' => tell_timer(timers::sync_timer((w.a % 256) as u8)),
+        b'z' => tell_timer(timers::delay_timer((w.a % 256) as u8, w.b)),
         _ => unknown(),
     }
 }

@@ -1,8 +1,7 @@
 use mathlib.Core.List.{[], _∷_}
 use mathlib.Core.Path.{ap, sym}
 use borrow.Author.Needs.{needs}
-use Rattle.record.specs.Answers.{numberOf}
-use Rattle.port.specs.ToldLaws.{firstActions}
+use Rattle.record.specs.Answers.{numberOf, firstActions}
 use Rattle.text.specs.PageLaws.{wrote-then, wrote-as, wrote-same}
 use Rattle.text.specs.Digits.{decimalOf}
 use Rattle.lines.specs.declared.Style.{Style}

@@ -1,6 +1,7 @@
 use native.Mathlib.Omega.{arith}
 use Prim.Native.Nat.{_-_}
 use mathlib.Core.Path.{refl}
+use Rattle.playing.specs.Between.{Came}
 use Rattle.playing.specs.BetweenLaws.{kept-front}
 use borrow.Author.Needs.{needs}
 use Rattle.playing.proofs.fill.Statement.{statement}
@@ -46,7 +47,7 @@ same-length c = search needs
 
 -- src/lib.rt:61:9
 returns : tie.Need-returns
-returns c = (record { start = omega arith; have = omega (arith, c .before .before .before .before .before .before .before .before .before .before .before .before .before .pre .0 .have, c .before .before .before .before .before .before .before .before .before .before .before .before .before .pre .0 .start) }, record { front = refl; least = omega arith; bytes = kept-front (c .before .before .before .before .before .before .before .before .before .before .before .before .before .args .f .have - c .before .before .before .before .before .before .before .before .before .before .before .before .before .args .f .start) (c .before .before .before .before .before .before .before .before .before .shift .last .0) (c .before .before .before .before .before .read .last .1 .0) _ (omega (arith, c .before .before .before .before .before .before .before .before .before .shift .kept .0, c .before .before .before .before .before .before .before .before .before .before .before .before .before .pre .0 .have, c .before .before .before .before .before .before .before .before .before .before .before .before .before .pre .0 .start)) (c .before .before .before .before .before .before .before .before .before .shift .ensures); state = refl })
+returns c = (record { start = omega arith; have = omega (arith, c .before .before .before .before .before .before .before .before .before .before .before .before .before .pre .0 .have, c .before .before .before .before .before .before .before .before .before .before .before .before .before .pre .0 .start) }, record { came = Came.failed refl; bytes = kept-front (c .before .before .before .before .before .before .before .before .before .before .before .before .before .args .f .have - c .before .before .before .before .before .before .before .before .before .before .before .before .before .args .f .start) (c .before .before .before .before .before .before .before .before .before .shift .last .0) (c .before .before .before .before .before .read .last .1 .0) _ (omega (arith, c .before .before .before .before .before .before .before .before .before .shift .kept .0, c .before .before .before .before .before .before .before .before .before .before .before .before .before .pre .0 .have, c .before .before .before .before .before .before .before .before .before .before .before .before .before .pre .0 .start)) (c .before .before .before .before .before .before .before .before .before .shift .ensures) })
 
 -- src/lib.rt:68:28
 sub-count : tie.Need-sub-count
@@ -70,7 +71,7 @@ same-length-2 c = search needs
 
 -- src/lib.rt:70:9
 returns-2 : tie.Need-returns-2
-returns-2 c = (record { start = omega arith; have = omega (arith, c .before .before .before .before .before .before .before .before .before .before .before .before .before .before .before .before .pre .0 .have, c .before .before .before .before .before .before .before .before .before .before .before .before .before .before .before .before .pre .0 .start) }, record { front = refl; least = omega arith; bytes = kept-front (c .before .before .before .before .before .before .before .before .before .before .before .before .before .before .before .before .args .f .have - c .before .before .before .before .before .before .before .before .before .before .before .before .before .before .before .before .args .f .start) (c .before .before .before .before .before .before .before .before .before .before .before .before .shift .last .0) (c .before .before .before .before .before .before .before .before .read .last .1 .0) _ (omega (arith, c .before .before .before .before .before .before .before .before .before .before .before .before .shift .kept .0, c .before .before .before .before .before .before .before .before .before .before .before .before .before .before .before .before .pre .0 .have, c .before .before .before .before .before .before .before .before .before .before .before .before .before .before .before .before .pre .0 .start)) (c .before .before .before .before .before .before .before .before .before .before .before .before .shift .ensures); state = refl })
+returns-2 c = (record { start = omega arith; have = omega (arith, c .before .before .before .before .before .before .before .before .before .before .before .before .before .before .before .before .pre .0 .have, c .before .before .before .before .before .before .before .before .before .before .before .before .before .before .before .before .pre .0 .start) }, record { came = Came.nothing refl; bytes = kept-front (c .before .before .before .before .before .before .before .before .before .before .before .before .before .before .before .before .args .f .have - c .before .before .before .before .before .before .before .before .before .before .before .before .before .before .before .before .args .f .start) (c .before .before .before .before .before .before .before .before .before .before .before .before .shift .last .0) (c .before .before .before .before .before .before .before .before .read .last .1 .0) _ (omega (arith, c .before .before .before .before .before .before .before .before .before .before .before .before .shift .kept .0, c .before .before .before .before .before .before .before .before .before .before .before .before .before .before .before .before .pre .0 .have, c .before .before .before .before .before .before .before .before .before .before .before .before .before .before .before .before .pre .0 .start)) (c .before .before .before .before .before .before .before .before .before .before .before .before .shift .ensures) })
 
 -- src/lib.rt:79:15
 add-t14 : tie.Need-add-t14
@@ -82,7 +83,7 @@ same-length-3 c = search needs
 
 -- src/lib.rt:48:1
 returns-3 : tie.Need-returns-3
-returns-3 c = (search needs, record { front = refl; least = omega arith; bytes = kept-front (c .before .before .before .before .before .before .before .before .before .before .before .before .before .before .before .before .args .f .have - c .before .before .before .before .before .before .before .before .before .before .before .before .before .before .before .before .args .f .start) (c .before .before .before .before .before .before .before .before .before .before .before .before .shift .last .0) (c .before .before .before .before .before .before .before .before .read .last .1 .0) _ (omega (arith, c .before .before .before .before .before .before .before .before .before .before .before .before .shift .kept .0, c .before .before .before .before .before .before .before .before .before .before .before .before .before .before .before .before .pre .0 .have, c .before .before .before .before .before .before .before .before .before .before .before .before .before .before .before .before .pre .0 .start)) (c .before .before .before .before .before .before .before .before .before .before .before .before .shift .ensures); state = refl })
+returns-3 c = (search needs, record { came = Came.some (c .before .before .count .result) (omega (arith, c .before .if2 .left)) refl; bytes = kept-front (c .before .before .before .before .before .before .before .before .before .before .before .before .before .before .before .before .args .f .have - c .before .before .before .before .before .before .before .before .before .before .before .before .before .before .before .before .args .f .start) (c .before .before .before .before .before .before .before .before .before .before .before .before .shift .last .0) (c .before .before .before .before .before .before .before .before .read .last .1 .0) _ (omega (arith, c .before .before .before .before .before .before .before .before .before .before .before .before .shift .kept .0, c .before .before .before .before .before .before .before .before .before .before .before .before .before .before .before .before .pre .0 .have, c .before .before .before .before .before .before .before .before .before .before .before .before .before .before .before .before .pre .0 .start)) (c .before .before .before .before .before .before .before .before .before .before .before .before .shift .ensures) })
 
 pub fill-spec : {M : Type 1} → statement M
 fill-spec =

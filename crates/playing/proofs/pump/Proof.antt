@@ -8,7 +8,7 @@ use Rattle.playing.proofs.pump.Tie as tie
 use Rattle.playing.proofs.pump.Reads as reads
 use Rattle.playing.proofs.pump.Lts as lts
 use Rattle.playing.proofs.turn.Reads as turn-reads
-use Rattle.replaying.proofs.State.start.Reads as start-reads
+use Rattle.playing.proofs.Flow.begin.Reads as begin-reads
 
 abbrev Inv-loop : tie.InvT-loop
 Inv-loop style fd name w₀ out₀ f₀ turns₀ w out f turns = Sound f (length w₀) × (length w ≡ length w₀) × (length out ≡ length out₀)
@@ -17,8 +17,8 @@ abbrev μ-loop : tie.MeasureT-loop
 μ-loop style fd name w₀ out₀ f₀ turns₀ w out f turns = turns
 
 -- src/lib.rt:123:16
-start-requires : tie.Need-start-requires Inv-loop μ-loop
-start-requires c κs = tt
+begin-requires : tie.Need-begin-requires Inv-loop μ-loop
+begin-requires c κs = tt
 
 -- src/lib.rt:130:5
 loop-holds : tie.Need-loop-holds Inv-loop μ-loop
@@ -70,7 +70,7 @@ pump-spec =
     (tie.spec
     Inv-loop
     μ-loop
-    start-requires
+    begin-requires
     loop-holds
     turn-requires
     same-length

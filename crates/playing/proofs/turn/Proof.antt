@@ -1,4 +1,6 @@
 use native.Mathlib.Omega.{arith}
+use mathlib.Core.Path.{refl}
+use Rattle.playing.specs.Between.{Next}
 use Rattle.playing.specs.BetweenLaws.{read-within, room-left}
 use borrow.Author.Needs.{needs}
 use Rattle.playing.proofs.turn.Statement.{statement}
@@ -43,7 +45,7 @@ same-length-2 c = search needs
 
 -- src/lib.rt:97:9
 returns : tie.Need-returns
-returns c = record { start = c .before .before .before .before .before .before .before .before .before .before .before .before .before .before .before .pre .0 .start; have = c .before .before .before .before .before .before .before .before .before .before .before .before .before .before .before .pre .0 .have }
+returns c = (record { start = c .before .before .before .before .before .before .before .before .before .before .before .before .before .before .before .pre .0 .start; have = c .before .before .before .before .before .before .before .before .before .before .before .before .before .before .before .pre .0 .have }, record { answer = c .before .before .before .before .before .before .before .before .turn .result; turned = c .before .before .before .before .before .before .before .before .turn .ensures .0; next = Next.ends refl })
 
 -- src/lib.rt:103:15
 enum-told : tie.Need-enum-told
@@ -71,7 +73,7 @@ same-length-4 c = search needs
 
 -- src/lib.rt:84:1
 returns-2 : tie.Need-returns-2
-returns-2 c = record { start = read-within (c .before .before .before .before .before .before .before .before .before .before .before .before .before .before .before .before .args .f) (c .before .before .before .before .before .before .before .before .before .before .before .before .before .before .before .before .args .w .now) _ _ (c .before .before .before .before .before .before .before .before .before .before .before .before .before .before .before .before .pre .0) (c .before .before .before .before .before .before .before .before .before .turn .ensures .1); have = c .before .before .before .before .before .before .before .before .before .before .before .before .before .before .before .before .pre .0 .have }
+returns-2 c = (record { start = read-within (c .before .before .before .before .before .before .before .before .before .before .before .before .before .before .before .before .args .f) (c .before .before .before .before .before .before .before .before .before .before .before .before .before .before .before .before .args .w .now) _ _ (c .before .before .before .before .before .before .before .before .before .before .before .before .before .before .before .before .pre .0) (c .before .before .before .before .before .before .before .before .before .turn .ensures .1); have = c .before .before .before .before .before .before .before .before .before .before .before .before .before .before .before .before .pre .0 .have }, record { answer = c .before .before .before .before .before .before .before .before .before .turn .result; turned = c .before .before .before .before .before .before .before .before .before .turn .ensures .0; next = Next.again (c .enum-told .given .1) refl refl })
 
 -- src/lib.rt:84:1
 same-length-5 : tie.Need-same-length-5
@@ -83,7 +85,7 @@ same-length-6 c = search needs
 
 -- src/lib.rt:84:1
 returns-3 : tie.Need-returns-3
-returns-3 c = search needs
+returns-3 c = (search needs, record { answer = c .before .before .before .before .before .before .before .before .before .before .before .before .before .turn .result; turned = c .before .before .before .before .before .before .before .before .before .before .before .before .before .turn .ensures .0; next = Next.more (c .before .before .before .before .enum-told2 .given .1) (c .before .before .fill .ensures .1) })
 
 -- src/lib.rt:84:1
 same-length-7 : tie.Need-same-length-7
@@ -95,7 +97,7 @@ same-length-8 c = search needs
 
 -- src/lib.rt:84:1
 returns-4 : tie.Need-returns-4
-returns-4 c = record { start = c .before .before .before .before .before .before .before .before .before .before .before .before .before .before .before .before .before .pre .0 .start; have = c .before .before .before .before .before .before .before .before .before .before .before .before .before .before .before .before .before .pre .0 .have }
+returns-4 c = (record { start = c .before .before .before .before .before .before .before .before .before .before .before .before .before .before .before .before .before .pre .0 .start; have = c .before .before .before .before .before .before .before .before .before .before .before .before .before .before .before .before .before .pre .0 .have }, record { answer = c .before .before .before .before .before .before .before .before .before .before .turn .result; turned = c .before .before .before .before .before .before .before .before .before .before .turn .ensures .0; next = Next.ends refl })
 
 pub turn-spec : {M : Type 1} → statement M
 turn-spec =

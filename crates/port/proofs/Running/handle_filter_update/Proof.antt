@@ -2,7 +2,7 @@ use mathlib.Core.Path.{refl}
 use Rattle.rules.specs.Events.{filterAnswer}
 use Rattle.rules.specs.Table.{row3}
 use Rattle.rules.specs.Step.{ruleOf}
-use Rattle.port.specs.EntryLaws.{ready, sent, shut}
+use Rattle.port.specs.EntryLaws.{sent, shut}
 use borrow.Author.Needs.{needs}
 use Rattle.port.proofs.Running.handle_filter_update.Statement.{statement}
 use Rattle.port.proofs.Running.handle_filter_update.Tie as tie
@@ -17,11 +17,10 @@ on-filter-requires : tie.Need-on-filter-requires
 on-filter-requires c κs = tt
 
 send-requires : tie.Need-send-requires
-unfolding ruleOf row3
-send-requires c κs =
-    let handled = c .before in
-    let gate = handled .before .before .before in
-    ready _ (filterAnswer _) (gate .before .before .before .args .packet .now) _ _ refl (gate .of .ensures .0) _ (handled .before .enum-told .given .1) (handled .on-filter .ensures) (gate .of .ensures .1) tt tt
+send-requires c κs = tt
+
+with-length-requires : tie.Need-with-length-requires
+with-length-requires c κs = tt
 
 enum-known-gate : tie.Need-enum-known-gate
 enum-known-gate c = search needs
@@ -35,10 +34,10 @@ same-length c = search needs
 returns : tie.Need-returns
 unfolding ruleOf row3
 returns c =
-    let send = c .before .before in
-    let handled = send .before .before in
+    let send = c .before .before .before in
+    let handled = send .before .before .before in
     let gate = handled .before .before .before in
-    sent _ (filterAnswer _) _ _ _ refl (gate .of .ensures .0) _ (handled .before .enum-told .given .1) (handled .on-filter .ensures) _ _ (send .send .ensures .0) (send .send .ensures .1)
+    sent _ (filterAnswer _) _ _ _ refl (gate .of .ensures .0) _ (handled .before .enum-told .given .1) (handled .on-filter .ensures) (gate .of .ensures .1) tt tt _ _ _ (send .send .ensures .0) (c .with-length .ensures) (send .send .ensures .1)
 
 returns-2 : tie.Need-returns-2
 unfolding ruleOf row3
@@ -54,6 +53,7 @@ handle-filter-update-spec =
     enum-told
     on-filter-requires
     send-requires
+    with-length-requires
     enum-known-gate
     refused-requires
     same-length

@@ -1,7 +1,7 @@
 use Rattle.rules.specs.Events.{stamp}
 use Rattle.rules.specs.Table.{row3}
 use Rattle.rules.specs.Step.{ruleOf}
-use Rattle.port.specs.EntryLaws.{ready, sent, shut}
+use Rattle.port.specs.EntryLaws.{sent, shut}
 use borrow.Author.Needs.{needs}
 use Rattle.port.proofs.Running.handle_send_timestamp.Statement.{statement}
 use Rattle.port.proofs.Running.handle_send_timestamp.Tie as tie
@@ -19,11 +19,10 @@ on-stamp-requires : tie.Need-on-stamp-requires
 on-stamp-requires c κs = tt
 
 send-requires : tie.Need-send-requires
-unfolding ruleOf row3
-send-requires c κs =
-    let handled = c .before in
-    let gate = handled .before .before .before in
-    ready _ (stamp _ _) (gate .before .before .before .before .args .packet .now) _ _ (gate .before .time-out .ensures) (gate .of .ensures .0) _ (handled .before .enum-told .given .1) (handled .on-stamp .ensures .0) (gate .of .ensures .1) (handled .on-stamp .ensures .1) tt
+send-requires c κs = tt
+
+with-length-requires : tie.Need-with-length-requires
+with-length-requires c κs = tt
 
 enum-known-gate : tie.Need-enum-known-gate
 enum-known-gate c = search needs
@@ -37,10 +36,10 @@ same-length c = search needs
 returns : tie.Need-returns
 unfolding ruleOf row3
 returns c =
-    let send = c .before .before in
-    let handled = send .before .before in
+    let send = c .before .before .before in
+    let handled = send .before .before .before in
     let gate = handled .before .before .before in
-    sent _ (stamp _ _) _ _ _ (gate .before .time-out .ensures) (gate .of .ensures .0) _ (handled .before .enum-told .given .1) (handled .on-stamp .ensures .0) _ _ (send .send .ensures .0) (send .send .ensures .1)
+    sent _ (stamp _ _) _ _ _ (gate .before .time-out .ensures) (gate .of .ensures .0) _ (handled .before .enum-told .given .1) (handled .on-stamp .ensures .0) (gate .of .ensures .1) (handled .on-stamp .ensures .1) tt _ _ _ (send .send .ensures .0) (c .with-length .ensures) (send .send .ensures .1)
 
 returns-2 : tie.Need-returns-2
 unfolding ruleOf row3
@@ -57,6 +56,7 @@ handle-send-timestamp-spec =
     enum-told
     on-stamp-requires
     send-requires
+    with-length-requires
     enum-known-gate
     refused-requires
     same-length

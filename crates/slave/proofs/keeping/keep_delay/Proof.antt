@@ -1,4 +1,4 @@
-use Rattle.slave.specs.Taking.{keptExchange}
+use Rattle.slave.specs.Keeping.{keptExchange}
 use borrow.Author.Needs.{needs}
 use Rattle.slave.proofs.keeping.keep_delay.Statement.{statement}
 use Rattle.slave.proofs.keeping.keep_delay.Tie as tie

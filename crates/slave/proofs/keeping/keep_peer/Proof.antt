@@ -1,4 +1,4 @@
-use Rattle.slave.specs.Taking.{keptPeer}
+use Rattle.slave.specs.Keeping.{keptPeer}
 use borrow.Author.Needs.{needs}
 use Rattle.slave.proofs.keeping.keep_peer.Statement.{statement}
 use Rattle.slave.proofs.keeping.keep_peer.Tie as tie

@@ -1,5 +1,5 @@
 use mathlib.Core.Path.{sym, _∙_}
-use Rattle.slave.specs.Taking.{guardOf}
+use Rattle.slave.specs.Keeping.{guardOf}
 use Rattle.slave.proofs.keeping.peer_guard.Statement.{statement}
 use Rattle.slave.proofs.keeping.peer_guard.Tie as tie
 

@@ -1,0 +1,3 @@
+-- Lemmas that several of the functions' proofs cite.
+mod MeasureLaws
+mod ExtractLaws

@@ -1,0 +1,26 @@
+-- Demand 3. To be believed: `Runs`, `Times`, `Whole`, `Undisturbed`, `Harmless`. What follows from them: the laws and the examples.
+pub mod Runs
+pub mod Times
+pub mod Whole
+pub mod Undisturbed
+pub mod Harmless
+pub mod SideLaws
+pub mod FrameLaws
+pub mod GatherLaws
+pub mod PlainLaws
+pub mod StandingLaws
+pub mod TimesLaws
+pub mod LaneLaws
+pub mod OrderLaws
+pub mod ReadLaws
+pub mod SyncSideLaws
+pub mod RequestSideLaws
+pub mod DelaySideLaws
+pub mod PeerSideLaws
+pub mod BesideLaws
+pub mod UndisturbedLaws
+pub mod RequestIdLaws
+pub mod WovenExamples
+pub mod WovenPeerExamples
+pub mod HarmlessExamples
+pub mod OutsideExamples
