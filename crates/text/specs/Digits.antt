@@ -9,11 +9,6 @@ unfoldable pub decimalIn : ℕ → ℕ → List ℕ
 decimalIn zero n = []
 decimalIn (suc k) n = cond (ltb n 10) ((48 + n) ∷ []) (decimalIn k (n / 10) ++ ((48 + n % 10) ∷ []))
 
--- the last k decimal digits of n, zeros in front among them
-unfoldable pub lastIn : ℕ → ℕ → List ℕ
-lastIn zero n = []
-lastIn (suc k) n = lastIn k (n / 10) ++ ((48 + n % 10) ∷ [])
-
 -- 20 digits hold every number below 2^64
 abbrev pub decimalOf : ℕ → List ℕ
 decimalOf n = decimalIn 20 n
@@ -21,11 +16,6 @@ decimalOf n = decimalIn 20 n
 -- a hexadecimal digit, 0 to 9 and a to f
 unfoldable pub glyphOf : ℕ → ℕ
 glyphOf d = cond (ltb d 10) (48 + d) (87 + d)
-
--- n digits from i on, one after another
-unfoldable pub glyphs : ℕ → ℕ → List ℕ
-glyphs i zero = []
-glyphs i (suc n) = glyphOf i ∷ glyphs (suc i) n
 
 -- the last k hexadecimal digits of n
 unfoldable pub hexIn : ℕ → ℕ → List ℕ

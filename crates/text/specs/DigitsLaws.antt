@@ -11,7 +11,8 @@ use lib.ListN.{length, getD, set, drop, length-append, drop-of-length-le}
 use lib.Seq.{sets, drop-cons}
 use lib.Dec.{ltb}
 use Rattle.text.specs.Ascii.{ascii}
-use Rattle.text.specs.Digits.{decimalIn, lastIn, hexIn, hexOf, glyphOf, glyphs}
+use Rattle.text.specs.Digits.{decimalIn, hexIn, hexOf, glyphOf}
+use Rattle.text.specs.Laying.{lastIn, glyphs}
 use Rattle.text.specs.Page.{Page, page, typed, Wrote}
 use Rattle.text.specs.PageLaws.{typed-append, wrote-then, wrote-as, wrote-laid, sets-last}
 

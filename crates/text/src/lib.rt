@@ -6,7 +6,8 @@ ghost use mathlib.Core.List.{[], _∷_};
 ghost use lib.ListN.{length};
 ghost use lib.Seq.{sets};
 ghost use Rattle.text.specs.Page.{Wrote};
-ghost use Rattle.text.specs.Digits.{decimalIn, decimalOf, glyphOf, hexIn, hexOf, lastIn};
+ghost use Rattle.text.specs.Digits.{decimalIn, decimalOf, glyphOf, hexIn, hexOf};
+ghost use Rattle.text.specs.Laying.{lastIn};
 
 pub fn put(out: &mut [u8], at: usize, x: u8) -> usize
     ensures { λ r. ⌜ Wrote (now (out .entry)) at (x ∷ []) (now (out .exit)) r ⌝ }

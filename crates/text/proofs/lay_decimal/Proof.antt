@@ -4,7 +4,7 @@ use native.Mathlib.Omega.{arith}
 use borrow.Author.Needs.{needs}
 use lib.ListN.{length, length-set}
 use lib.Seq.{sets}
-use Rattle.text.specs.Digits.{lastIn}
+use Rattle.text.specs.Laying.{lastIn}
 use Rattle.text.specs.DigitsLaws.{last-next, last-laid}
 use Rattle.text.proofs.lay_decimal.Statement.{statement}
 use Rattle.text.proofs.lay_decimal.Tie as tie
