@@ -44,33 +44,35 @@ length-last (suc k) n = length-append (lastIn k (n / 10)) ((48 + n % 10) ∷ [])
 one-less : (l w : List ℕ) (at i j x : ℕ) → length w ≡ j → i ≡ j → sets (set l (at + i) x) at w ≡ sets l at (w ++ (x ∷ []))
 one-less l w at i j x n e = ap (λ (k : ℕ). sets (set l (at + k) x) at w) (e ∙ sym n) ∙ sets-last l w at x
 
-pub hex-next : (at i m x : ℕ) (l : List ℕ) → 0 < i → x ≡ glyphOf (m % 16)
-    → sets (set l (at + (i - 1)) x) at (hexIn (i - 1) (m / 16)) ≡ sets l at (hexIn i m)
-unfolding hexIn
-hex-next at zero m x l h g = absurd (omega (arith, h))
-hex-next at (suc i) m x l h g =
-    let e : suc i - 1 ≡ i = omega arith in
-    ap (λ (k : ℕ). sets (set l (at + (suc i - 1)) x) at (hexIn k (m / 16))) e
-    ∙ one-less l (hexIn i (m / 16)) at (suc i - 1) i x (length-hex i (m / 16)) e
-    ∙ ap (λ (y : ℕ). sets l at (hexIn i (m / 16) ++ (y ∷ []))) g
+-- digits of any base b: g k n are the last k digits of n, and d n is the last one
+module _ (g : ℕ → ℕ → List ℕ) (b : ℕ) (d : ℕ → ℕ) (none : (n : ℕ) → g 0 n ≡ []) (one : (k n : ℕ) → g (suc k) n ≡ g k (n / b) ++ (d n ∷ [])) (many : (k n : ℕ) → length (g k n) ≡ k) where
+  next : (at i m x : ℕ) (l : List ℕ) → 0 < i → x ≡ d m → sets (set l (at + (i - 1)) x) at (g (i - 1) (m / b)) ≡ sets l at (g i m)
+  next at zero m x l h e = absurd (omega (arith, h))
+  next at (suc i) m x l h e =
+      let s : suc i - 1 ≡ i = omega arith in
+      ap (λ (k : ℕ). sets (set l (at + (suc i - 1)) x) at (g k (m / b))) s
+      ∙ one-less l (g i (m / b)) at (suc i - 1) i x (many i (m / b)) s
+      ∙ ap (λ (y : ℕ). sets l at (g i (m / b) ++ (y ∷ []))) e
+      ∙ ap (sets l at) (sym (one i m))
 
-pub last-next : (at i m x : ℕ) (l : List ℕ) → 0 < i → x ≡ 48 + m % 10
-    → sets (set l (at + (i - 1)) x) at (lastIn (i - 1) (m / 10)) ≡ sets l at (lastIn i m)
+  laid : (at i m : ℕ) (l r : List ℕ) → i ≡ 0 → sets l at (g i m) ≡ r → l ≡ r
+  laid at i m l r h p = sym (ap (λ (k : ℕ). sets l at (g k m)) h ∙ ap (sets l at) (none m)) ∙ p
+
+pub hex-next : (at i m x : ℕ) (l : List ℕ) → 0 < i → x ≡ glyphOf (m % 16) → sets (set l (at + (i - 1)) x) at (hexIn (i - 1) (m / 16)) ≡ sets l at (hexIn i m)
+unfolding hexIn
+hex-next = next hexIn 16 (λ m. glyphOf (m % 16)) (λ n. refl) (λ k n. refl) length-hex
+
+pub last-next : (at i m x : ℕ) (l : List ℕ) → 0 < i → x ≡ 48 + m % 10 → sets (set l (at + (i - 1)) x) at (lastIn (i - 1) (m / 10)) ≡ sets l at (lastIn i m)
 unfolding lastIn
-last-next at zero m x l h g = absurd (omega (arith, h))
-last-next at (suc i) m x l h g =
-    let e : suc i - 1 ≡ i = omega arith in
-    ap (λ (k : ℕ). sets (set l (at + (suc i - 1)) x) at (lastIn k (m / 10))) e
-    ∙ one-less l (lastIn i (m / 10)) at (suc i - 1) i x (length-last i (m / 10)) e
-    ∙ ap (λ (y : ℕ). sets l at (lastIn i (m / 10) ++ (y ∷ []))) g
+last-next = next lastIn 10 (λ m. 48 + m % 10) (λ n. refl) (λ k n. refl) length-last
 
 pub hex-laid : (at i m : ℕ) (l r : List ℕ) → i ≡ 0 → sets l at (hexIn i m) ≡ r → l ≡ r
 unfolding hexIn
-hex-laid at i m l r h p = sym (ap (λ (k : ℕ). sets l at (hexIn k m)) h) ∙ p
+hex-laid = laid hexIn 16 (λ m. glyphOf (m % 16)) (λ n. refl) (λ k n. refl) length-hex
 
 pub last-laid : (at i m : ℕ) (l r : List ℕ) → i ≡ 0 → sets l at (lastIn i m) ≡ r → l ≡ r
 unfolding lastIn
-last-laid at i m l r h p = sym (ap (λ (k : ℕ). sets l at (lastIn k m)) h) ∙ p
+last-laid = laid lastIn 10 (λ m. 48 + m % 10) (λ n. refl) (λ k n. refl) length-last
 
 -- the table that a digit is looked up in
 pub glyph-at : (n i k : ℕ) → k < n → getD (glyphs i n) k 0 ≡ glyphOf (i + k)
