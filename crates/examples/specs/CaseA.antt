@@ -9,7 +9,7 @@ use Rattle.rules.specs.Names.{Body, Config, Identity, Mechanism, NewState}
 use Rattle.rules.specs.Events.{Event, event, general, setState}
 use Rattle.rules.specs.Running.{runOf, ns, lasting, wireNs}
 use Rattle.log.specs.Fields.{timeAt, durationAt, innerOf, stateAt, eventOf, generalOf, setStateOf, configOf, fieldOf, statedOf, noneOf, frontOf}
-use Rattle.log.specs.Log.{scanFrom, scan, gathered, readLog}
+use Rattle.streaming.specs.Log.{scanFrom, scan, gathered, readLog}
 use Rattle.lines.specs.declared.Style.{Style}
 use Rattle.recording.specs.Recording.{fieldBytes, stateBytes, configBytes, eventBytes}
 use Rattle.recording.specs.ReadsBack.{eventsBytes}

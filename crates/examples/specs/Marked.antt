@@ -8,7 +8,7 @@ use Rattle.rules.specs.Events.{Event}
 use Rattle.rules.specs.Running.{runOf}
 use Rattle.text.specs.Digits.{decimalIn, glyphOf, hexIn, hexOf}
 use Rattle.log.specs.Fields.{timeAt, durationAt, innerOf, contextAt, stateAt, eventOf, generalOf, stampOf, delayTimerOf, setStateOf, configOf, fieldOf, statedOf, noneOf, frontOf}
-use Rattle.log.specs.Log.{scanFrom, scan, gathered, readLog}
+use Rattle.streaming.specs.Log.{scanFrom, scan, gathered, readLog}
 use Rattle.lines.specs.declared.Style.{Style}
 use Rattle.lines.specs.Lines.{maybeTime, maybeDuration, maybeIdentity, shownOf, contextText, linkText, actionText, resetText, lineWith, exchangeText, peerText, slaveTexts, endLine, lastLine}
 use Rattle.recording.specs.Recording.{fieldBytes, contextBytes, stateBytes, configBytes, eventBytes}

@@ -5,7 +5,7 @@ use mathlib.Core.Bool.{Bool, true, false, _||_, not, or-assoc, or-false, true≢
 use mathlib.Core.List.{List, [], _∷_, _++_}
 use native.Mathlib.Omega.{arith}
 use borrow.Author.Tests.{ltb-false, le-ltb, not-false}
-use Rattle.wire.specs.BytesLaws.{neither}
+use Rattle.bytes.specs.BytesLaws.{neither}
 use Rattle.time.specs.declared.Time.{Time}
 use Rattle.time.specs.Units.{time, inTime}
 use Rattle.timers.specs.Timers.{interval, inInterval}

@@ -9,7 +9,7 @@ use Rattle.record.specs.Answers.{firstActions}
 use Rattle.text.specs.Page.{Wrote}
 use Rattle.text.specs.PageLaws.{wrote-as}
 use Rattle.text.specs.Digits.{hexOf}
-use Rattle.lines.specs.Lines.{following, marked, dash, sentText}
+use Rattle.lines.specs.Lines.{following, joinedBy, dash, sentText}
 
 -- nothing stands behind the last text
 pub wrote-end : {d : List ℕ} {at : ℕ} {w e : List ℕ} {k : ℕ} → Wrote d at w e k → Wrote d at (w ++ []) e k
@@ -20,8 +20,8 @@ behind-append mark [] ys = refl
 behind-append mark (x ∷ xs) ys =
     append-assoc (mark ∷ x) (following mark xs) (following mark ys) ∙ ap (λ (l : List ℕ). mark ∷ x ++ l) (behind-append mark xs ys)
 
-pub marked-append : (mark : ℕ) (x : List ℕ) (xs ys : List (List ℕ)) → marked mark x xs ++ following mark ys ≡ marked mark x (xs ++ ys)
-marked-append mark x xs ys = append-assoc x (following mark xs) (following mark ys) ∙ ap (λ (l : List ℕ). x ++ l) (behind-append mark xs ys)
+pub joined-append : (mark : ℕ) (x : List ℕ) (xs ys : List (List ℕ)) → joinedBy mark x xs ++ following mark ys ≡ joinedBy mark x (xs ++ ys)
+joined-append mark x xs ys = append-assoc x (following mark xs) (following mark ys) ∙ ap (λ (l : List ℕ). x ++ l) (behind-append mark xs ys)
 
 -- texts in three parts
 pub behind-three : (mark : ℕ) (xs ys zs : List (List ℕ)) → following mark xs ++ (following mark ys ++ following mark zs) ≡ following mark (xs ++ (ys ++ zs))

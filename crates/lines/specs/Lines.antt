@@ -63,8 +63,8 @@ following mark [] = []
 following mark (x ∷ xs) = mark ∷ x ++ following mark xs
 
 -- the first, and each other behind a mark
-abbrev pub marked : ℕ → List ℕ → List (List ℕ) → List ℕ
-marked mark x xs = x ++ following mark xs
+abbrev pub joinedBy : ℕ → List ℕ → List (List ℕ) → List ℕ
+joinedBy mark x xs = x ++ following mark xs
 
 -- ---- a measurement: its letter, the raw (for P the halved) value, event time, offset and delay
 
@@ -106,7 +106,7 @@ actionTexts (a ∷ more) = actionText a ∷ actionTexts more
 -- in their order, joined by commas
 abbrev pub actionsText : List Action → List ℕ
 actionsText [] = dash
-actionsText (a ∷ more) = marked 44 (actionText a) (actionTexts more)
+actionsText (a ∷ more) = joinedBy 44 (actionText a) (actionTexts more)
 
 -- ---- the line of an event
 
@@ -131,7 +131,7 @@ traceTexts m sent as′ reset =
 -- texts with a space between, and a newline
 abbrev pub row : List (List ℕ) → List ℕ
 row [] = 10 ∷ []
-row (x ∷ xs) = marked 32 x xs ++ (10 ∷ [])
+row (x ∷ xs) = joinedBy 32 x xs ++ (10 ∷ [])
 
 unfoldable pub lineWith : Style → ℕ → Outcome → MaybeMeasurement → List ℕ → List Action → Bool → List ℕ
 lineWith Style.Replay n o m sent as′ reset = row (replayTexts n o (shownOf m))
@@ -152,14 +152,14 @@ badLine offset = ascii "bad at " ++ (decimalOf offset ++ (10 ∷ []))
 
 unfoldable pub exchangeText : Exchange → List ℕ
 exchangeText Exchange.Empty = dash
-exchangeText (Exchange.Measuring id send receive) = marked 58 (decimalOf id) (maybeTime send ∷ maybeTime receive ∷ [])
+exchangeText (Exchange.Measuring id send receive) = joinedBy 58 (decimalOf id) (maybeTime send ∷ maybeTime receive ∷ [])
 
 unfoldable pub peerText : PeerState → List ℕ
 peerText PeerState.Empty = dash
 peerText (PeerState.Measuring id who a b c d) =
-    marked 58 (ascii "open")
+    joinedBy 58 (ascii "open")
     (decimalOf id ∷ maybeIdentity who ∷ maybeTime a ∷ maybeTime b ∷ maybeTime c ∷ maybeTime d ∷ [])
-peerText (PeerState.Measured id who) = marked 58 (ascii "done") (decimalOf id ∷ identityText who ∷ [])
+peerText (PeerState.Measured id who) = joinedBy 58 (ascii "done") (decimalOf id ∷ identityText who ∷ [])
 
 -- the master, both exchanges and the raw offset, which only a Slave has
 unfoldable pub slaveTexts : PortState → List (List ℕ)
@@ -171,7 +171,7 @@ slaveTexts (PortState.Slave s) =
     identityText (s .master) ∷ exchangeText (s .sync) ∷ exchangeText (s .delay) ∷ maybeDuration (s .raw) ∷ []
 
 abbrev pub idsText : Ids → List ℕ
-idsText i = marked 58 (decimalOf (i .sync)) (decimalOf (i .delay) ∷ decimalOf (i .peer) ∷ [])
+idsText i = joinedBy 58 (decimalOf (i .sync)) (decimalOf (i .delay) ∷ decimalOf (i .peer) ∷ [])
 
 -- end STATE MASTER SYNC DELAY RAW PEER MEAN IDS
 unfoldable pub endLine : Port → List ℕ

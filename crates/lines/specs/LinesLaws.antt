@@ -23,7 +23,7 @@ use Rattle.text.specs.Digits.{decimalOf, decimalIn, hexIn}
 use Rattle.text.specs.DigitsLaws.{length-decimal, length-hex, length-hexOf}
 use Rattle.lines.specs.declared.Style.{Style}
 use Rattle.lines.specs.declared.Shown.{Shown}
-use Rattle.lines.specs.Lines.{following, marked, maybeTime, maybeDuration, maybeIdentity, identityText, shownOf, contextText, linkText, actionText, actionsText, sentText, resetText, traceTexts, lineWith, badLine, exchangeText, peerText, slaveTexts, idsText, endLine, lastLine}
+use Rattle.lines.specs.Lines.{following, joinedBy, maybeTime, maybeDuration, maybeIdentity, identityText, shownOf, contextText, linkText, actionText, actionsText, sentText, resetText, traceTexts, lineWith, badLine, exchangeText, peerText, slaveTexts, idsText, endLine, lastLine}
 
 -- ---- sums of lengths
 
@@ -120,9 +120,9 @@ short-trace m sent as′ reset h =
     omega (arith, t)
 
 -- a row of which all but the first text is known to be short
-short-row : (n : ℕ) (more : List (List ℕ)) {k : ℕ} → length (following 32 more) ≤ k → length (marked 32 (decimalOf n) more ++ (10 ∷ [])) ≤ 21 + k
+short-row : (n : ℕ) (more : List (List ℕ)) {k : ℕ} → length (following 32 more) ≤ k → length (joinedBy 32 (decimalOf n) more ++ (10 ∷ [])) ≤ 21 + k
 short-row n more h =
-    omega (arith, length-append (marked 32 (decimalOf n) more) (10 ∷ []), length-append (decimalOf n) (following 32 more), short-decimal n, h)
+    omega (arith, length-append (joinedBy 32 (decimalOf n) more) (10 ∷ []), length-append (decimalOf n) (following 32 more), short-decimal n, h)
 
 pub line-short : (style : Style) (n : ℕ) (o : Outcome) (m : MaybeMeasurement) (sent : List ℕ) (as′ : List Action) (reset : Bool)
     → length as′ ≤ 2 → length (lineWith style n o m sent as′ reset) ≤ 512 + 2 * length sent

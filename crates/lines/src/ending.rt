@@ -3,7 +3,7 @@ ghost use mathlib.Core.List.{_∷_, []};
 ghost use Rattle.text.specs.Page.{Wrote};
 ghost use Rattle.text.specs.Ascii.{ascii};
 ghost use Rattle.text.specs.Digits.{decimalOf};
-ghost use Rattle.lines.specs.Lines.{following, marked, maybeTime, maybeIdentity, exchangeText, peerText, slaveTexts, idsText, endLine};
+ghost use Rattle.lines.specs.Lines.{following, joinedBy, maybeTime, maybeIdentity, exchangeText, peerText, slaveTexts, idsText, endLine};
 use crate::values;
 use record::Exchange;
 use record::Ids;
@@ -29,7 +29,7 @@ fn exchange(out: &mut [u8], at: usize, x: Exchange) -> usize
 
 // A peer exchange that is open; the request's two times, and the response's.
 fn open_peer(out: &mut [u8], at: usize, id: u16, who: MaybeIdentity) -> usize
-    ensures { λ r. ⌜ Wrote (now (out .entry)) at (marked 58 (ascii "open") (decimalOf id ∷ maybeIdentity who ∷ [])) (now (out .exit)) r ⌝ }
+    ensures { λ r. ⌜ Wrote (now (out .entry)) at (joinedBy 58 (ascii "open") (decimalOf id ∷ maybeIdentity who ∷ [])) (now (out .exit)) r ⌝ }
 {
     let a = text::copy(out, at, b"open");
     let b = values::marked_id(out, a, b':', id);

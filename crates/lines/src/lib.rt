@@ -4,7 +4,7 @@ ghost use mathlib.Core.List.{_∷_, []};
 ghost use Rattle.record.specs.Answers.{numberOf, firstActions};
 ghost use Rattle.text.specs.Page.{Wrote};
 ghost use Rattle.text.specs.Digits.{decimalOf};
-ghost use Rattle.lines.specs.Lines.{following, marked, maybeDuration, sentText, resetText, traceTexts, lineFor, badLine, lastLine};
+ghost use Rattle.lines.specs.Lines.{following, joinedBy, maybeDuration, sentText, resetText, traceTexts, lineFor, badLine, lastLine};
 
 mod actions;
 mod ending;
@@ -34,7 +34,7 @@ pub struct Shown {
 
 // Number, answer, letter, value.
 fn heading(out: &mut [u8], at: usize, number: u64, outcome: Outcome, shown: Shown) -> usize
-    ensures { λ r. ⌜ Wrote (now (out .entry)) at (marked 32 (decimalOf number) (decimalOf (numberOf outcome) ∷ (shown .letter ∷ []) ∷ maybeDuration (shown .value) ∷ [])) (now (out .exit)) r ⌝ }
+    ensures { λ r. ⌜ Wrote (now (out .entry)) at (joinedBy 32 (decimalOf number) (decimalOf (numberOf outcome) ∷ (shown .letter ∷ []) ∷ maybeDuration (shown .value) ∷ [])) (now (out .exit)) r ⌝ }
 {
     let letter = shown.letter;
     let value = shown.value;

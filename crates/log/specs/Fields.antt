@@ -6,7 +6,7 @@ use lib.ListN.{length, take}
 use lib.Dec.{ltb, leb, eqb}
 use Rattle.time.specs.declared.Time.{Time}
 use Rattle.time.specs.declared.Duration.{Duration}
-use Rattle.wire.specs.Bytes.{number}
+use Rattle.bytes.specs.Bytes.{number}
 use Rattle.wire.specs.Layout.{identityAt}
 use Rattle.record.specs.declared.Config.{Config}
 use Rattle.record.specs.declared.Context.{Context}

@@ -9,8 +9,8 @@ use borrow.Author.Tests.{leb-true, leb-false, eqb-true, lt-leb, le-leb, eq-eqb, 
 use lib.ListN.{length, getD, take}
 use lib.Dec.{leb, eqb}
 use Rattle.time.specs.declared.Time.{Time}
-use Rattle.wire.specs.Bytes.{number}
-use Rattle.wire.specs.BytesLaws.{apart, both}
+use Rattle.bytes.specs.Bytes.{number}
+use Rattle.bytes.specs.BytesLaws.{apart, both}
 use Rattle.record.specs.declared.MaybeDuration.{MaybeDuration}
 use Rattle.log.specs.declared.Logged.{Logged}
 use Rattle.log.specs.declared.Inner.{Inner}

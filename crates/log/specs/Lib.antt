@@ -1,8 +1,3 @@
--- Document 01, 'Event log'. To be believed: `Fields`, `Log`. What follows from them: the laws. `Streaming` says what reading by pieces is.
+-- Document 01, 'Event log': the field at the front of some bytes. To be believed: `Fields`. What follows from it: its laws.
 pub mod Fields
-pub mod Log
-pub mod Streaming
 pub mod FieldsLaws
-pub mod FrontLaws
-pub mod StreamingLaws
-pub mod Examples

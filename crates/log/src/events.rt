@@ -11,7 +11,6 @@ use crate::parts;
 use record::FilterUpdate;
 use record::MaybeDuration;
 use record::MaybeNanoseconds;
-use wire::fields;
 
 // A message has no more bytes than this.
 const LONGEST: usize = 1024;
@@ -101,7 +100,7 @@ pub(crate) fn delay_timer(f: &[u8]) -> Found
     if a + 8 != f.len() {
         return Found::No;
     }
-    let draw = fields::get_u64(f, a);
+    let draw = bytes::get_u64(f, a);
     Found::Some(Logged::DelayTimer { draw })
 }
 
@@ -126,7 +125,7 @@ fn update(f: &[u8], at: usize, mean_delay: MaybeDuration) -> Found
     if b + 8 != f.len() {
         return Found::No;
     }
-    let next_update = MaybeNanoseconds::Some(fields::get_u64(f, b));
+    let next_update = MaybeNanoseconds::Some(bytes::get_u64(f, b));
     let update = FilterUpdate {
         mean_delay,
         next_update,

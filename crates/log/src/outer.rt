@@ -44,12 +44,12 @@ fn config_with(mechanism: Mechanism, f: &[u8]) -> Config
 {
     Config {
         identity: fields::get_identity(f, 3),
-        sdo: fields::get_u16(f, 13),
-        domain: fields::get_u8(f, 15),
-        minor: fields::get_u8(f, 16),
+        sdo: bytes::get_u16(f, 13),
+        domain: bytes::get_u8(f, 15),
+        minor: bytes::get_u8(f, 16),
         mechanism,
-        delay_interval: fields::get_u8(f, 18),
-        sync_interval: fields::get_u8(f, 19),
+        delay_interval: bytes::get_u8(f, 18),
+        sync_interval: bytes::get_u8(f, 19),
         asymmetry: parts::duration_at(f, 20),
     }
 }
@@ -61,7 +61,7 @@ fn config(f: &[u8]) -> Found
     if f.len() != 36 {
         return Found::No;
     }
-    let mechanism = fields::get_u8(f, 17);
+    let mechanism = bytes::get_u8(f, 17);
     if mechanism == 0 {
         return Found::Config(config_with(Mechanism::EndToEnd, f));
     }

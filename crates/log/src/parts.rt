@@ -2,7 +2,7 @@
 ghost use mathlib.Core.Path.{_≡_};
 ghost use Prim.Native.Nat.{_+_, _≤_, _<_};
 ghost use lib.ListN.{length};
-ghost use Rattle.wire.specs.Bytes.{number};
+ghost use Rattle.bytes.specs.Bytes.{number};
 ghost use Rattle.log.specs.Fields.{timeAt, durationAt, innerOf, byKind, contextAt, byNumber, stateAt};
 use crate::Inner;
 use crate::MaybeContext;
@@ -18,7 +18,7 @@ pub(crate) fn length_at(s: &[u8], at: usize) -> usize
     requires { ⌜ at + 2 ≤ length (now s) ⌝ }
     ensures { λ r. ⌜ (r ≡ number at 2 (now (s .entry))) × (r < 65536) ⌝ }
 {
-    fields::get_u16(s, at) as usize
+    bytes::get_u16(s, at) as usize
 }
 
 pub(crate) fn time_at(f: &[u8], at: usize) -> Time
@@ -26,8 +26,8 @@ pub(crate) fn time_at(f: &[u8], at: usize) -> Time
     ensures { λ r. ⌜ r ≡ timeAt at (now (f .entry)) ⌝ }
 {
     Time {
-        hi: fields::get_u64(f, at),
-        lo: fields::get_u64(f, at + 8),
+        hi: bytes::get_u64(f, at),
+        lo: bytes::get_u64(f, at + 8),
     }
 }
 
@@ -36,8 +36,8 @@ pub(crate) fn duration_at(f: &[u8], at: usize) -> Duration
     ensures { λ r. ⌜ r ≡ durationAt at (now (f .entry)) ⌝ }
 {
     Duration {
-        hi: fields::get_u64(f, at),
-        lo: fields::get_u64(f, at + 8),
+        hi: bytes::get_u64(f, at),
+        lo: bytes::get_u64(f, at + 8),
     }
 }
 
@@ -57,7 +57,7 @@ pub(crate) fn inner_at(f: &[u8], at: usize, tag: u8) -> Inner
     if n - start < len {
         return Inner::No;
     }
-    if fields::get_u8(f, at) == tag {
+    if bytes::get_u8(f, at) == tag {
         return Inner::At(start, len);
     }
     Inner::No
@@ -80,17 +80,17 @@ pub(crate) fn context_at(f: &[u8], at: usize, n: usize) -> MaybeContext
     ensures { λ r. ⌜ r ≡ contextAt at n (now (f .entry)) ⌝ }
 {
     if n == 3 {
-        let kind = fields::get_u8(f, at);
-        let id = fields::get_u16(f, at + 1);
+        let kind = bytes::get_u8(f, at);
+        let id = bytes::get_u16(f, at + 1);
         return by_kind(kind, id);
     }
     if n != 13 {
         return MaybeContext::None;
     }
-    if fields::get_u8(f, at) != 3 {
+    if bytes::get_u8(f, at) != 3 {
         return MaybeContext::None;
     }
-    let id = fields::get_u16(f, at + 1);
+    let id = bytes::get_u16(f, at + 1);
     let requester = fields::get_identity(f, at + 3);
     MaybeContext::Some(Context::PDelayResp { id, requester })
 }
@@ -113,12 +113,12 @@ pub(crate) fn state_at(f: &[u8], at: usize, n: usize) -> MaybeState
     ensures { λ r. ⌜ r ≡ stateAt at n (now (f .entry)) ⌝ }
 {
     if n == 1 {
-        return by_number(fields::get_u8(f, at));
+        return by_number(bytes::get_u8(f, at));
     }
     if n != 11 {
         return MaybeState::None;
     }
-    if fields::get_u8(f, at) != 4 {
+    if bytes::get_u8(f, at) != 4 {
         return MaybeState::None;
     }
     let master = fields::get_identity(f, at + 1);

@@ -1,54 +1,14 @@
 // The loop of `replay` and `trace`: bytes are read into a window, `replaying` turns them into lines in a buffer, and the buffer is written. One window
-// and one buffer of 64 KiB serve a log of any length. What is read and written no contract can say; that turns over any windows write the
-// lines of the whole log is a theorem of `replaying`.
-ghost use mathlib.Core.Path.{_≡_};
+// and one buffer of 64 KiB serve a log of any length. What is read and written no contract can say; what follows from it `flow` decides, and that turns
+// over any windows write the lines of the whole log is a theorem of `replaying`.
 ghost use Prim.Native.Nat.{_-_, _≤_, _<_};
-ghost use lib.ListN.{length, take, drop};
-ghost use Rattle.playing.specs.Between.{Sound, Kept, Turns, begun};
-ghost use Rattle.replaying.specs.Sessions.{startOf};
+ghost use lib.ListN.{length};
+ghost use Rattle.playing.specs.Between.{Sound, Kept, Turns, Pumped};
+use flow::Flow;
+use flow::Then;
 use libc::STDIN_FILENO;
 use libc::STDOUT_FILENO;
 use lines::Style;
-use replaying::State;
-use replaying::Stop;
-
-// The window holds unread bytes from start up to have; last says that nothing follows them.
-pub struct Flow {
-    pub state: State,
-    pub start: usize,
-    pub have: usize,
-    pub last: bool,
-    pub go: bool,
-}
-
-impl Flow {
-    // Before anything was read.
-    fn begin() -> Flow
-        ensures { λ r. ⌜ (r ≡ begun startOf) × Sound r 0 ⌝ }
-    {
-        let state = State::start();
-        Flow {
-            state,
-            start: 0,
-            have: 0,
-            last: false,
-            go: true,
-        }
-    }
-}
-
-// Moves the bytes from place from up to place to to the front.
-fn shift(w: &mut [u8], from: usize, to: usize)
-    requires { ⌜ (from ≤ to) × (to ≤ length (now w)) ⌝ }
-    ensures { λ _. ⌜ take (to - from) (now (w .exit)) ≡ take (to - from) (drop from (now (w .entry))) ⌝ }
-{
-    let n = to - from;
-    let mut i = 0;
-    while i < n {
-        w[i] = w[from + i];
-        i += 1;
-    }
-}
 
 // Writes the first n bytes of out, and says whether that went well.
 fn flush(out: &[u8], n: usize) -> bool
@@ -61,6 +21,13 @@ fn flush(out: &[u8], n: usize) -> bool
     ok
 }
 
+// Says on standard error where a read failed.
+fn report(got: isize, name: &[u8]) {
+    if got < 0 {
+        os::fail(name);
+    }
+}
+
 // The unread bytes to the front, and more behind them. There is room for at least one.
 fn fill(fd: i32, name: &[u8], w: &mut [u8], f: Flow) -> Flow
     requires { ⌜ Sound f (length (now w)) ⌝ }
@@ -68,34 +35,15 @@ fn fill(fd: i32, name: &[u8], w: &mut [u8], f: Flow) -> Flow
     ensures { λ r. ⌜ Sound r (length (now (w .entry))) ⌝ }
     ensures { λ r. ⌜ Kept f (now (w .entry)) r (now (w .exit)) ⌝ }
 {
-    let start = f.start;
-    let have = f.have;
-    let n = have - start;
-    shift(w, start, have);
+    let from = f.start;
+    let to = f.have;
+    flow::shift(w, from, to);
+    let g = f.front();
+    let n = g.have;
     let got = libc::read(fd, &mut w[n..]);
-    if got < 0 {
-        os::fail(name);
-        return Flow {
-            start: 0,
-            have: n,
-            go: false,
-            ..f
-        };
-    }
-    let k = io::count(got, &w[n..]);
-    if k == 0 {
-        return Flow {
-            start: 0,
-            have: n,
-            last: true,
-            ..f
-        };
-    }
-    Flow {
-        start: 0,
-        have: n + k,
-        ..f
-    }
+    report(got, name);
+    let room = w.len() - n;
+    g.came(got, room)
 }
 
 // One turn. Its lines are written before anything is read, so that they are seen while a log is still coming.
@@ -108,41 +56,24 @@ fn turn(style: Style, fd: i32, name: &[u8], w: &mut [u8], out: &mut [u8], f: Flo
     let start = f.start;
     let have = f.have;
     let t = replaying::turn(style, f.state, &w[start..have], f.last, out);
-    let state = t.state;
-    let stop = t.stop;
-    let at = start + t.read;
-    let ok = flush(out, t.wrote);
-    if !ok {
-        return Flow { go: false, ..f };
-    }
-    match stop {
-        Stop::Full => Flow {
-            state,
-            start: at,
-            ..f
-        },
-        Stop::More => fill(
-            fd,
-            name,
-            w,
-            Flow {
-                state,
-                start: at,
-                ..f
-            },
-        ),
-        Stop::Done => Flow { go: false, ..f },
+    let written = flush(out, t.wrote);
+    match f.after(t, written) {
+        Then::Stays(g) => g,
+        Then::Reads(g) => fill(fd, name, w, g),
     }
 }
 
+// Turn after turn, until the flow says that there is no next one.
 fn pump(style: Style, fd: i32, name: &[u8], w: &mut [u8], out: &mut [u8])
     requires { ⌜ 1049 ≤ length (now w) ⌝ }
+    ensures { λ _. ⌜ Pumped style (now (w .entry)) (now (out .entry)) (now (w .exit)) (now (out .exit)) ⌝ }
 {
     let mut f = Flow::begin();
     let mut turns = u64::MAX;
     while turns > 0 {
         f = turn(style, fd, name, w, out, f);
-        if !f.go {
+        let go = f.go;
+        if !go {
             return;
         }
         turns -= 1;

@@ -18,14 +18,13 @@ use Rattle.rules.specs.RefusalLaws.{step-rule}
 use Rattle.rules.specs.Given.{BytesIn, ContextIn, PortIn, InTypes}
 use Rattle.rules.specs.WritableLaws.{Writable, sent-writable}
 use Rattle.handling.specs.declared.Handled.{Handled}
-use Rattle.handling.specs.declared.MaybeMessage.{MaybeMessage}
 use Rattle.handling.specs.Handling.{maybeMessage, handedOn, turnedDown, handledOf}
-use Rattle.dispatch.specs.declared.gates.Gate.{Gate}
-use Rattle.dispatch.specs.Rows.{gateOf}
-use Rattle.dispatch.specs.RowLaws.{IsOpen, gate-open, gate-shut}
+use Rattle.rows.specs.declared.Gate.{Gate}
+use Rattle.rows.specs.Rows.{gateOf}
+use Rattle.rows.specs.RowLaws.{IsOpen, gate-open, gate-shut}
 use Rattle.port.specs.Entries.{answerFor, Answers}
 use Rattle.handling.specs.Sending.{lengthLeft, bufferLeft}
-use Rattle.port.specs.Pieces.{Ready, answerSent, lengthSent, bufferSent}
+use Rattle.port.specs.Pieces.{Ready, answerSent, bufferSent}
 use Rattle.port.specs.SendLaws.{ready-length, ready-buffer}
 
 -- ---- what is told of a refusal, and of what is handed on and then sent
@@ -40,11 +39,6 @@ module _ (p : Port) (k : MaybeMeasurement) (as′ : List Action) (r : Bool) wher
   unfolding answerOf
   answer-told none = refl
   answer-told (some m) = refl
-
--- an answer that nothing is sent with keeps its length
-length-told : (m : MaybeMessage) (a : Answer) → withLength a (lengthSent m (a .length)) ≡ answerSent m a
-length-told MaybeMessage.None a = refl
-length-told (MaybeMessage.Some m) a = refl
 
 buffer-told : (m : Option Message) (l : List ℕ) → bufferSent (maybeMessage m) l ≡ packet m ++ drop (length (packet m)) l
 unfolding bufferSent
@@ -98,7 +92,7 @@ module _ (p : Port) (e : Event) (l : List ℕ) (limits : Bool) (g : Gate) (row :
     unfolding row1
     sent t context bytes n a left k b y =
         let takes : Ready (h .message) (length l) = ready t context bytes in
-        let x : a ≡ answerSent (h .message) (h .answer) = b ∙ ap (withLength (h .answer)) (k ∙ ready-length (h .message) (h .answer .length) (length l) takes) ∙ length-told (h .message) (h .answer) in
+        let x : a ≡ answerSent (h .message) (h .answer) = b ∙ ap (withLength (h .answer)) (k ∙ ready-length (h .message) (h .answer .length) (length l) takes) in
         let s : step p (length l) e ≡ answered p (ruleOf p e) = step-rule p (length l) e (passed .enough) (passed .fit) (passed .within) in
         let (v, w) = handled-told p (ruleOf p e) l in (
           x ∙ ap (λ (z : Handled). answerSent (z .message) (z .answer)) r ∙ v ∙ ap answerFor (sym s),

@@ -23,14 +23,13 @@ Ready MaybeMessage.None room = Unit {0}
 Ready (MaybeMessage.Some m) room =
     writeOf (m .header) (m .body) room ≡ W.Length (length (messageBytes (m .header) (m .body)))
 
-abbrev pub answerSent : MaybeMessage → Answer → Answer
-answerSent MaybeMessage.None a = a
-answerSent (MaybeMessage.Some m) a = withLength a (length (messageBytes (m .header) (m .body)))
-
 -- the length that is told, n where nothing is sent
 abbrev pub lengthSent : MaybeMessage → ℕ → ℕ
 lengthSent MaybeMessage.None n = n
 lengthSent (MaybeMessage.Some m) n = length (messageBytes (m .header) (m .body))
+
+abbrev pub answerSent : MaybeMessage → Answer → Answer
+answerSent m a = withLength a (lengthSent m (a .length))
 
 unfoldable pub bufferSent : MaybeMessage → List ℕ → List ℕ
 bufferSent m l = bytesIn m ++ drop (length (bytesIn m)) l

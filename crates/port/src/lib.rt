@@ -2,9 +2,7 @@
 // Every entry is the same: the gate of rows 1, 2 and 3, what the event's handler hands on, and the packet.
 ghost use Rattle.rules.specs.Events.{event, general, stamp, syncTimer, delayTimer, filterAnswer, setState};
 ghost use Rattle.port.specs.Entries.{Answers};
-use dispatch::gates::Gate;
 use dispatch::hearing;
-use dispatch::host;
 use dispatch::stamps;
 use handling::sending;
 use master::Answering;
@@ -13,7 +11,7 @@ use record::Context;
 use record::FilterUpdate;
 use record::NewState;
 use record::Port;
-use slave::Measuring;
+use rows::Gate;
 use time::Time;
 
 // The Rust's Port<Running>: it goes in by value, and the record to go on with is in the answer.
@@ -110,8 +108,7 @@ impl Running {
         let gate = Gate::of(port, packet.len(), draw_out);
         match gate {
             Gate::Open => {
-                let slave = Measuring { port };
-                let handled = slave.send_delay_request(draw);
+                let handled = requests::send_delay_request(port, draw);
                 let answer = handled.answer;
                 let outgoing = handled.message;
                 let length = sending::send(packet, outgoing, answer.length);
@@ -129,7 +126,7 @@ impl Running {
         let gate = Gate::of(port, packet.len(), false);
         match gate {
             Gate::Open => {
-                let handled = host::on_filter(port, update);
+                let handled = from_host::on_filter(port, update);
                 let answer = handled.answer;
                 let outgoing = handled.message;
                 let length = sending::send(packet, outgoing, answer.length);
@@ -147,7 +144,7 @@ impl Running {
         let gate = Gate::of(port, packet.len(), false);
         match gate {
             Gate::Open => {
-                let handled = host::on_state(port, state);
+                let handled = from_host::on_state(port, state);
                 let answer = handled.answer;
                 let outgoing = handled.message;
                 let length = sending::send(packet, outgoing, answer.length);

@@ -4,7 +4,6 @@
 
 mod answers;
 pub mod equality;
-mod exchanges;
 mod parts;
 pub mod sequence;
 

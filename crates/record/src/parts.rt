@@ -1,7 +1,7 @@
-// The record with one part replaced, and what a port and a Slave begin with. Handlers change a record through
-// these alone.
+// The record with one part replaced, what a port and a Slave begin with, and a state's number. Handlers change a
+// record through these alone.
 ghost use mathlib.Core.Path.{_≡_};
-ghost use Rattle.record.specs.Record.{withSync, withDelay, withRaw, slaveOf, withState, withPeer, withMean, withIds, withSlave, portOf};
+ghost use Rattle.record.specs.Record.{stateNumber, withSync, withDelay, withRaw, slaveOf, withState, withPeer, withMean, withIds, withSlave, portOf};
 use crate::Config;
 use crate::Exchange;
 use crate::Ids;
@@ -12,6 +12,21 @@ use crate::PortState;
 use crate::SlaveState;
 use time::Duration;
 use wire::Identity;
+
+impl PortState {
+    // The number that the event log has for each state.
+    pub fn number(self) -> u8
+        ensures { λ r. ⌜ r ≡ stateNumber self ⌝ }
+    {
+        match self {
+            PortState::Listening => 0,
+            PortState::Master => 1,
+            PortState::Passive => 2,
+            PortState::Faulty => 3,
+            PortState::Slave(_) => 4,
+        }
+    }
+}
 
 impl SlaveState {
     // A Slave of this master that has heard nothing yet.

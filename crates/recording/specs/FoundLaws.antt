@@ -6,8 +6,8 @@ use native.Mathlib.Omega.{arith}
 use borrow.Author.Tests.{le-leb, eq-eqb}
 use lib.ListN.{length, take, drop, length-append}
 use Rattle.time.specs.declared.Time.{Time}
-use Rattle.wire.specs.Bytes.{number, spell}
-use Rattle.wire.specs.BytesLaws.{length-spell}
+use Rattle.bytes.specs.Bytes.{number, spell}
+use Rattle.bytes.specs.BytesLaws.{length-spell}
 use Rattle.wire.specs.Layout.{identityAt}
 use Rattle.record.specs.declared.Config.{Config}
 use Rattle.record.specs.declared.Context.{Context}

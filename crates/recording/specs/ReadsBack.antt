@@ -8,15 +8,15 @@ use native.Mathlib.Omega.{arith}
 use borrow.Author.Tests.{leb-true}
 use lib.ListN.{length, drop}
 use lib.Seq.{take-append-seam, drop-append-seam, drop-at}
-use Rattle.wire.specs.Bytes.{spell}
+use Rattle.bytes.specs.Bytes.{spell}
 use Rattle.record.specs.declared.Config.{Config}
 use Rattle.rules.specs.Events.{Event, event, general, stamp, syncTimer, delayTimer, filterAnswer, setState}
 use Rattle.log.specs.declared.Logged.{Logged}
 use Rattle.log.specs.declared.Found.{Found}
 use Rattle.log.specs.declared.Next.{Next}
 use Rattle.log.specs.Fields.{fieldOf, noneOf, frontOf, seen}
-use Rattle.log.specs.Log.{Log, end, next, starts, told, scan, gathered, readLog}
-use Rattle.log.specs.StreamingLaws.{scan-at}
+use Rattle.streaming.specs.Log.{Log, end, next, starts, told, scan, gathered, readLog}
+use Rattle.streaming.specs.StreamingLaws.{scan-at}
 use Rattle.recording.specs.Recording.{fieldBytes, timeBytes, contextBytes, stateBytes, meanBytes, nextBytes, configBytes, eventBytes, recordable}
 use Rattle.recording.specs.Fitting.{Fitting, ConfigIn}
 use Rattle.recording.specs.RecordingLaws.{length-timed, length-field, length-filter-value, length-draw, length-config-value, length-event, length-general, length-stamp, length-sync-timer, length-delay-timer, length-filter, length-set-state}

@@ -10,8 +10,8 @@ use lib.Dec.{leb}
 use Rattle.time.specs.declared.Time.{Time}
 use Rattle.time.specs.declared.Duration.{Duration}
 use Rattle.wire.specs.declared.Identity.{Identity}
-use Rattle.wire.specs.Bytes.{spell}
-use Rattle.wire.specs.BytesLaws.{length-spell}
+use Rattle.bytes.specs.Bytes.{spell}
+use Rattle.bytes.specs.BytesLaws.{length-spell}
 use Rattle.writing.specs.declared.Written.{Written}
 use Rattle.record.specs.declared.Config.{Config}
 use Rattle.record.specs.declared.Context.{Context}

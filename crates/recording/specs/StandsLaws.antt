@@ -10,8 +10,8 @@ use lib.Seq.{take-append-seam, drop-at, take-at, getD-at}
 use Rattle.time.specs.declared.Time.{Time}
 use Rattle.time.specs.declared.Duration.{Duration}
 use Rattle.wire.specs.declared.Identity.{Identity}
-use Rattle.wire.specs.Bytes.{number, spell}
-use Rattle.wire.specs.BytesLaws.{length-spell, number-past, number-inside, number-spell}
+use Rattle.bytes.specs.Bytes.{number, spell}
+use Rattle.bytes.specs.BytesLaws.{length-spell, number-past, number-inside, number-spell}
 use Rattle.wire.specs.Layout.{identityAt}
 use Rattle.wire.specs.LayoutLaws.{InWidths}
 use Rattle.log.specs.declared.Inner.{Inner}

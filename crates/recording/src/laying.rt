@@ -2,7 +2,7 @@
 ghost use mathlib.Core.Path.{_≡_};
 ghost use mathlib.Core.List.{[], _∷_, _++_};
 ghost use lib.ListN.{length};
-ghost use Rattle.wire.specs.Bytes.{spell};
+ghost use Rattle.bytes.specs.Bytes.{spell};
 ghost use Rattle.text.specs.Page.{Wrote};
 ghost use Rattle.recording.specs.Recording.{fieldBytes, timeBytes, durationBytes, identityBytes, contextBytes, stateBytes, meanBytes, nextBytes, mechanismByte};
 use record::Config;

@@ -11,8 +11,8 @@ use Rattle.record.specs.declared.Port.{Port}
 use Rattle.rules.specs.Events.{Event, event, general}
 use Rattle.port.specs.Entries.{Answers}
 use Rattle.log.specs.declared.Logged.{Logged}
-use Rattle.log.specs.Log.{told}
-use Rattle.log.specs.FrontLaws.{Placed}
+use Rattle.streaming.specs.Log.{told}
+use Rattle.streaming.specs.FrontLaws.{Placed}
 
 -- a message lies within its field
 module _ (m : ℕ) (x : Logged) (i n : ℕ) where

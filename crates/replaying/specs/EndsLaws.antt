@@ -6,10 +6,10 @@ use mathlib.Core.List.{List, [], _∷_, _++_}
 use mathlib.Core.Option.{Option, some}
 use native.Mathlib.Omega.{arith}
 use lib.ListN.{length, take, drop, length-drop, length-append}
-use Rattle.wire.specs.BytesLaws.{apart}
-use Rattle.log.specs.Log.{told}
-use Rattle.log.specs.Streaming.{joined}
-use Rattle.log.specs.StreamingLaws.{more-open}
+use Rattle.bytes.specs.BytesLaws.{apart}
+use Rattle.streaming.specs.Log.{told}
+use Rattle.streaming.specs.Streaming.{joined}
+use Rattle.streaming.specs.StreamingLaws.{more-open}
 use Rattle.lines.specs.declared.Style.{Style}
 use Rattle.lines.specs.Lines.{lineOf}
 use Rattle.replaying.specs.declared.State.{State}

@@ -17,13 +17,13 @@ use Rattle.port.specs.Entries.{answerFor, Answers}
 use Rattle.port.specs.ToldLaws.{TellsResult, answer-tells}
 use Rattle.rules.specs.BufferLaws.{sent-fits, buffer-length}
 use Rattle.record.specs.declared.Answer.{Answer}
-use Rattle.wire.specs.BytesLaws.{apart}
+use Rattle.bytes.specs.BytesLaws.{apart}
 use Rattle.log.specs.declared.Logged.{Logged}
 use Rattle.log.specs.declared.Next.{Next}
 use Rattle.log.specs.Fields.{frontOf}
-use Rattle.log.specs.Log.{Fields, starts, next, good, bad, rest, scan, told, onward}
-use Rattle.log.specs.FrontLaws.{Placed}
-use Rattle.log.specs.StreamingLaws.{scan-at, front-fits, front-placed, front-config-fits, more-small}
+use Rattle.streaming.specs.Log.{Fields, starts, next, good, bad, rest, scan, told, onward}
+use Rattle.streaming.specs.FrontLaws.{Placed}
+use Rattle.streaming.specs.StreamingLaws.{scan-at, front-fits, front-placed, front-config-fits, more-small}
 use Rattle.lines.specs.declared.Style.{Style}
 use Rattle.lines.specs.Lines.{lineOf, lineFor, badLine, lastLine}
 use Rattle.lines.specs.LinesLaws.{line-short, bad-short, last-short}

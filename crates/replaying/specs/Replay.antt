@@ -7,7 +7,7 @@ use Rattle.record.specs.declared.Port.{Port}
 use Rattle.record.specs.Record.{portOf}
 use Rattle.rules.specs.Events.{Event, Result}
 use Rattle.rules.specs.Step.{step}
-use Rattle.log.specs.Log.{Log, Ending, end, badAt, readLog}
+use Rattle.streaming.specs.Log.{Log, Ending, end, badAt, readLog}
 use Rattle.lines.specs.declared.Style.{Style}
 use Rattle.lines.specs.Lines.{lineOf, badLine, lastLine}
 

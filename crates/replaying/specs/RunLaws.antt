@@ -12,9 +12,9 @@ use Rattle.rules.specs.Events.{Event}
 use Rattle.log.specs.declared.Logged.{Logged}
 use Rattle.log.specs.declared.Next.{Next}
 use Rattle.log.specs.Fields.{frontOf}
-use Rattle.log.specs.Log.{Fields, scan, told, onward}
-use Rattle.log.specs.FrontLaws.{Front, front}
-use Rattle.log.specs.StreamingLaws.{scan-is}
+use Rattle.streaming.specs.Log.{Fields, scan, told, onward}
+use Rattle.streaming.specs.FrontLaws.{Front, front}
+use Rattle.streaming.specs.StreamingLaws.{scan-is}
 use Rattle.lines.specs.declared.Style.{Style}
 use Rattle.lines.specs.Lines.{lineOf, badLine, lastLine}
 use Rattle.replaying.specs.declared.State.{State}

@@ -11,13 +11,13 @@ use lib.Seq.{drop-drop, drop-append-le, take-append-le}
 use Rattle.record.specs.declared.Config.{Config}
 use Rattle.record.specs.declared.Port.{Port}
 use Rattle.rules.specs.Events.{Event}
-use Rattle.wire.specs.BytesLaws.{apart}
+use Rattle.bytes.specs.BytesLaws.{apart}
 use Rattle.log.specs.declared.Next.{Next}
 use Rattle.log.specs.Fields.{frontOf}
-use Rattle.log.specs.Log.{next, scan, told}
-use Rattle.log.specs.Streaming.{joined}
-use Rattle.log.specs.FrontLaws.{Steady, steady}
-use Rattle.log.specs.StreamingLaws.{scan-at}
+use Rattle.streaming.specs.Log.{next, scan, told}
+use Rattle.streaming.specs.Streaming.{joined}
+use Rattle.streaming.specs.FrontLaws.{Steady, steady}
+use Rattle.streaming.specs.StreamingLaws.{scan-at}
 use Rattle.lines.specs.declared.Style.{Style}
 use Rattle.lines.specs.Lines.{lineOf, badLine, lastLine}
 use Rattle.replaying.specs.declared.State.{State}

@@ -8,7 +8,7 @@ use lib.ListN.{length, drop}
 use Rattle.record.specs.declared.Config.{Config}
 use Rattle.record.specs.declared.Mechanism.{Mechanism}
 use Rattle.record.specs.Record.{portOf}
-use Rattle.log.specs.Streaming.{joined}
+use Rattle.streaming.specs.Streaming.{joined}
 use Rattle.lines.specs.declared.Style.{Style}
 use Rattle.replaying.specs.declared.State.{State}
 use Rattle.replaying.specs.declared.Stop.{Stop}

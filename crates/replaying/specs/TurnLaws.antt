@@ -7,14 +7,14 @@ use native.Mathlib.Omega.{arith}
 use native.Mathlib.Nat.{add-zero, sub-zero, zero-add, add-assoc}
 use borrow.Author.Tests.{lt-ltb}
 use lib.ListN.{length, drop, length-append}
-use Rattle.log.specs.Log.{Fields, starts, next, good, bad, rest, scan}
+use Rattle.streaming.specs.Log.{Fields, starts, next, good, bad, rest, scan}
 use Rattle.lines.specs.declared.Style.{Style}
 use Rattle.text.specs.Page.{Wrote}
 use Rattle.text.specs.PageLaws.{wrote-then, wrote-nothing, wrote-same, wrote-first}
 use Rattle.replaying.specs.declared.State.{State}
 use Rattle.replaying.specs.declared.Stop.{Stop}
 use Rattle.replaying.specs.declared.one.Went.{Went}
-use Rattle.wire.specs.BytesLaws.{apart}
+use Rattle.bytes.specs.BytesLaws.{apart}
 use Rattle.replaying.specs.Turns.{lineRoom, Run, stopped, after, runOf, Turned, Leaves}
 use Rattle.replaying.specs.OneLaws.{One}
 

@@ -8,7 +8,7 @@ use lib.Dec.{ltb}
 use Rattle.record.specs.declared.Config.{Config}
 use Rattle.record.specs.declared.Port.{Port}
 use Rattle.record.specs.Record.{portOf}
-use Rattle.log.specs.Log.{Fields, starts, next, good, bad, rest, scan}
+use Rattle.streaming.specs.Log.{Fields, starts, next, good, bad, rest, scan}
 use Rattle.lines.specs.declared.Style.{Style}
 use Rattle.lines.specs.Lines.{lineOf, badLine, lastLine}
 use Rattle.replaying.specs.declared.State.{State}

@@ -9,10 +9,10 @@ use Rattle.record.specs.declared.Port.{Port}
 use Rattle.record.specs.Record.{portOf}
 use Rattle.log.specs.declared.Next.{Next}
 use Rattle.log.specs.Fields.{frontOf}
-use Rattle.log.specs.Log.{Fields, starts, next, good, bad, rest, scan, onward, gathered, readLog}
-use Rattle.wire.specs.BytesLaws.{apart}
-use Rattle.log.specs.FrontLaws.{Front, front}
-use Rattle.log.specs.StreamingLaws.{scan-is}
+use Rattle.streaming.specs.Log.{Fields, starts, next, good, bad, rest, scan, onward, gathered, readLog}
+use Rattle.bytes.specs.BytesLaws.{apart}
+use Rattle.streaming.specs.FrontLaws.{Front, front}
+use Rattle.streaming.specs.StreamingLaws.{scan-is}
 use Rattle.lines.specs.declared.Style.{Style}
 use Rattle.lines.specs.Lines.{lineOf, badLine, lastLine}
 use Rattle.replaying.specs.Replay.{answerTo, resultsFrom, recordAfter, numbered, lastOf, withoutPort, linesFor, linesOf, replayLines}

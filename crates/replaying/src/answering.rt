@@ -2,8 +2,8 @@
 ghost use Prim.Native.Nat.{_+_, _≤_};
 ghost use lib.ListN.{length};
 ghost use Rattle.port.specs.Entries.{Answers};
-ghost use Rattle.log.specs.Log.{told};
-ghost use Rattle.log.specs.FrontLaws.{Placed};
+ghost use Rattle.streaming.specs.Log.{told};
+ghost use Rattle.streaming.specs.FrontLaws.{Placed};
 use log::Logged;
 use port::Running;
 use record::Answer;

@@ -7,7 +7,7 @@ use native.Mathlib.Omega.{arith}
 use lib.Dec.{eqb}
 use lib.ListN.{length, drop, length-append, length-drop}
 use borrow.Author.Tests.{eqb-true, ltb-false}
-use Rattle.wire.specs.BytesLaws.{apart}
+use Rattle.bytes.specs.BytesLaws.{apart}
 use Rattle.rules.specs.Names.{Port, Outcome}
 use Rattle.rules.specs.Events.{Event, bufferAfter}
 use Rattle.rules.specs.Table.{row1}

@@ -13,7 +13,7 @@ use Rattle.time.specs.Laws.{signed-low, signed-high}
 use Rattle.time.specs.Lemmas.Integers.{not-below, sub-lt}
 use Rattle.wire.specs.declared.MessageType.{MessageType}
 use Rattle.wire.specs.declared.MessageType.the-variants as M
-use Rattle.wire.specs.BytesLaws.{apart}
+use Rattle.bytes.specs.BytesLaws.{apart}
 use Rattle.wire.specs.Layout.{typeOf, timestampOf, restIn, sdoId, twoStep, twoStepFlag}
 use Rattle.sent.specs.declared.CorrectionAnswer.{CorrectionAnswer}
 use Rattle.sent.specs.declared.CorrectionAnswer.the-variants as C

@@ -7,7 +7,7 @@ use mathlib.Core.Option.{Option, none, some}
 use lib.ListN.{length, drop}
 use Rattle.rules.specs.Names.{Config, Reading, Header, Body, Time, Message, Port, Context, FilterUpdate, NewState, Outcome, MaybeMeasurement, Action}
 use Rattle.wire.specs.Layout.{messageBytes}
-use Rattle.wire.specs.Reading.{readOf}
+use Rattle.reading.specs.Reading.{readOf}
 use Rattle.rules.specs.Worked.{Worked, worked, refused}
 
 -- the seven events, as the event log has them

@@ -5,7 +5,7 @@ use mathlib.Core.List.{List, []}
 use Prim.Native.Nat.{ℕ}
 use Rattle.rules.specs.Names.{Time, Header, Identity, Body, Message, MessageAnswer, Exchange, SlaveState, PeerState, PortState, Port, Config, Context, Action, Outcome, Reading, FilterUpdate, NewState}
 use Rattle.sent.specs.Messages.{followUpOf, delayRespOf, pDelayRespOf, pDelayRespFollowUpOf}
-use Rattle.wire.specs.Reading.{readOf}
+use Rattle.reading.specs.Reading.{readOf}
 use Rattle.record.specs.Record.{withSync, withDelay, withSlave, withPeer}
 use Rattle.rules.specs.Worked.{Worked, refused}
 use Rattle.rules.specs.Events.{Event, event, general, stamp, syncTimer, delayTimer, filterAnswer, setState, Done, changed, sending}

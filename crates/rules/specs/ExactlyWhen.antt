@@ -7,7 +7,7 @@ use mathlib.Core.Logic.{_↔_}
 use lib.Dec.{eqb}
 use borrow.Author.Tests.{eq-eqb}
 use Rattle.rules.specs.Names.{Port, Outcome}
-use Rattle.wire.specs.BytesLaws.{both}
+use Rattle.bytes.specs.BytesLaws.{both}
 use Rattle.fitness.specs.Fit.{unfit}
 use Rattle.record.specs.Answers.{numberOf}
 use Rattle.rules.specs.Events.{Event}

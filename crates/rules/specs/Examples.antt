@@ -6,7 +6,7 @@ use mathlib.Core.List.{List, [], _∷_}
 use lib.IntN.{pos}
 use Rattle.time.specs.Units.{timeWords}
 use Rattle.wire.specs.Layout.{headerEntries}
-use Rattle.wire.specs.Bytes.{bytesOf}
+use Rattle.bytes.specs.Bytes.{bytesOf}
 use Rattle.sent.specs.Messages.{noFlag}
 use Rattle.record.specs.Record.{withState, withIds, withSlave, withSync, slaveOf}
 use Rattle.rules.specs.Names.{Time, Duration, Body, Identity, Mechanism, PortState, Exchange, MaybeDuration, MaybeNanoseconds, Ids, Port, Context, NewState, Action, Outcome, Measurement}

@@ -8,12 +8,12 @@ use Rattle.time.specs.declared.WireTimestamp.{WireTimestamp}
 use Rattle.time.specs.Units.{time, inTime, wire}
 use Rattle.time.specs.Laws.{IsTime}
 use Rattle.time.specs.WireLaws.{read-is}
-use Rattle.wire.specs.Bytes.{Bytes}
-use Rattle.wire.specs.BytesLaws.{number-lt}
+use Rattle.bytes.specs.Bytes.{Bytes}
+use Rattle.bytes.specs.BytesLaws.{number-lt}
 use Rattle.wire.specs.Layout.{typeOf, timestampOf, timestampAt, body}
 use Rattle.wire.specs.LayoutLaws.{timestamp-body}
-use Rattle.wire.specs.Reading.{readOf}
-use Rattle.wire.specs.ReadingLaws.{IsMessage, message-is}
+use Rattle.reading.specs.Reading.{readOf}
+use Rattle.reading.specs.ReadingLaws.{IsMessage, message-is}
 use Rattle.record.specs.Record.{withSync, withDelay, withSlave, withPeer}
 use Rattle.fitness.specs.Fit.{timeOut, configOut, unfit}
 use Rattle.fitness.specs.FitLaws.{FitSync, FitDelay, FitState, FitPeer, IsFit, fit-is, fit-when}

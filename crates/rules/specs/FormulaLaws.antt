@@ -3,7 +3,7 @@ use Prim.Native.Nat.{ℕ}
 use mathlib.Core.Path.{_≡_}
 use mathlib.Core.List.{_++_}
 use Rattle.rules.specs.Names.{Time, Header, Body, Reading, Port, Outcome}
-use Rattle.wire.specs.Reading.{readOf}
+use Rattle.reading.specs.Reading.{readOf}
 use Rattle.rules.specs.Worked.{Worked, refused}
 use Rattle.rules.specs.Events.{Event, event, general, stamp, syncTimer, delayTimer, filterAnswer, setState, Done}
 use Rattle.rules.specs.Rules.{onEvent, onGeneral, stamped, filtered, stateSet}

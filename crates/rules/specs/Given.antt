@@ -1,6 +1,6 @@
 -- What is known of a record and of an event beforehand, because code holds its numbers in so many bits: a message's list holds bytes, a record's and a context's numbers have room on the wire.
 use Prim.Native.Nat.{_^_, _<_}
-use Rattle.wire.specs.Bytes.{Bytes}
+use Rattle.bytes.specs.Bytes.{Bytes}
 use Rattle.wire.specs.LayoutLaws.{InWidths}
 use Rattle.rules.specs.Names.{Context, Port}
 use Rattle.rules.specs.Events.{Event, event, general, stamp, syncTimer, delayTimer, filterAnswer, setState}

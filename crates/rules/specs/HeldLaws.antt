@@ -4,7 +4,7 @@ use mathlib.Core.Path.{_≡_, refl, sym, ap, _∙_, subst}
 use mathlib.Core.Bool.{Bool, true, false, cond, _&&_}
 use mathlib.Core.List.{List}
 use lib.Dec.{eqb}
-use Rattle.wire.specs.Reading.{readOf}
+use Rattle.reading.specs.Reading.{readOf}
 use Rattle.record.specs.Record.{stateNumber, isFaulty, asSlave}
 use Rattle.rules.specs.Names.{Time, Header, Body, Reading, MaybeDuration, SlaveState, PortState, Mechanism, Port, Context, NewState, Outcome}
 use Rattle.rules.specs.Worked.{Worked, worked, refused}

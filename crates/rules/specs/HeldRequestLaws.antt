@@ -7,7 +7,7 @@ use borrow.Author.Tests.{eqb-true}
 use lib.IntN.{ℤ, _+ℤ_, _-ℤ_}
 use Rattle.time.specs.Units.{time, timeWords, timeOf, correction}
 use Rattle.timers.specs.Timers.{delayTimerOf}
-use Rattle.wire.specs.BytesLaws.{neither}
+use Rattle.bytes.specs.BytesLaws.{neither}
 use Rattle.wire.specs.Layout.{twoStep}
 use Rattle.record.specs.Record.{withDelay, withState, withSlave, withPeer}
 use Rattle.fitness.specs.Fit.{slaveFull, full, peerFull}

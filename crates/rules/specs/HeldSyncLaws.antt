@@ -6,7 +6,7 @@ use lib.Dec.{eqb}
 use lib.IntN.{ℤ, _+ℤ_, _-ℤ_}
 use Rattle.time.specs.Units.{time, inTime, timeWords, timeOf, duration, inDuration, durationWords, durationOf, correction}
 use Rattle.time.specs.Laws.{time-is, time-in, duration-is, duration-in}
-use Rattle.wire.specs.BytesLaws.{neither}
+use Rattle.bytes.specs.BytesLaws.{neither}
 use Rattle.wire.specs.Layout.{twoStep}
 use Rattle.record.specs.Record.{withSync, withState, withSlave}
 use Rattle.fitness.specs.Fit.{there, full, peerFull}

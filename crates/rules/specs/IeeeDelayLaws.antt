@@ -7,7 +7,7 @@ use borrow.Author.Tests.{eq-eqb}
 use lib.IntN.{ℤ, pos, _-ℤ_}
 use Rattle.time.specs.declared.WireTimestamp.{WireTimestamp}
 use Rattle.time.specs.Units.{time, duration, wire, correction, half}
-use Rattle.wire.specs.BytesLaws.{apart}
+use Rattle.bytes.specs.BytesLaws.{apart}
 use Rattle.record.specs.Record.{asSlave, withSlave, withSync, withDelay, withRaw, withIds}
 use Rattle.record.specs.SameLaws.{same-identity, identity-self}
 use Rattle.rules.specs.Names.{Time, Duration, Header, Body, MaybeTime, MaybeDuration, Mechanism, Exchange, SlaveState, PortState, Port, Context, Measurement, MaybeMeasurement}

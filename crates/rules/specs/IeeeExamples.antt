@@ -9,8 +9,8 @@ use lib.IntN.{ℤ, pos}
 use Rattle.time.specs.Units.{time, signed, wire, correction, half}
 use Rattle.wire.specs.declared.MessageType.{MessageType}
 use Rattle.wire.specs.declared.MessageType.the-variants as M
-use Rattle.wire.specs.Bytes.{Bytes}
-use Rattle.wire.specs.BytesLaws.{both}
+use Rattle.bytes.specs.Bytes.{Bytes}
+use Rattle.bytes.specs.BytesLaws.{both}
 use Rattle.wire.specs.Layout.{twoStepFlag}
 use Rattle.sent.specs.Messages.{headerFor, noFlag, noInterval}
 use Rattle.record.specs.Record.{slaveOf, portOf}

@@ -9,7 +9,7 @@ use lib.IntN.{ℤ, pos, _+ℤ_, _-ℤ_}
 use Rattle.time.specs.declared.WireTimestamp.{WireTimestamp}
 use Rattle.time.specs.Units.{time, duration, wire, correction}
 use Rattle.wire.specs.Layout as Layout
-use Rattle.wire.specs.Reading.{readOf}
+use Rattle.reading.specs.Reading.{readOf}
 use Rattle.record.specs.Record.{withSlave, withSync, withRaw}
 use Rattle.record.specs.SameLaws.{same-identity}
 use Rattle.rules.specs.Names.{Time, Duration, Header, Body, Reading, MaybeDuration, Exchange, SlaveState, PortState, Port, Outcome, Measurement, MaybeMeasurement}

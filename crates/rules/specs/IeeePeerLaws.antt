@@ -8,8 +8,8 @@ use lib.IntN.{ℤ, _+ℤ_, _-ℤ_}
 use Rattle.time.specs.declared.WireTimestamp.{WireTimestamp}
 use Rattle.time.specs.Units.{time, duration, wire, correction, half}
 use Rattle.wire.specs.Layout as Layout
-use Rattle.wire.specs.Reading.{readOf}
-use Rattle.wire.specs.BytesLaws.{apart}
+use Rattle.reading.specs.Reading.{readOf}
+use Rattle.bytes.specs.BytesLaws.{apart}
 use Rattle.record.specs.Record.{withState, withPeer, withIds}
 use Rattle.rules.specs.Names.{Time, Duration, Identity, Header, Body, Reading, MaybeTime, MaybeIdentity, Mechanism, PeerState, Port, Context, Measurement, MaybeMeasurement}
 use Rattle.rules.specs.Worked.{worked}

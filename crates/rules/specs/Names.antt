@@ -9,7 +9,7 @@ pub use Rattle.wire.specs.declared.Body.{Body}
 pub use Rattle.wire.specs.declared.Header.{Header}
 pub use Rattle.wire.specs.declared.Identity.{Identity}
 pub use Rattle.wire.specs.declared.Kind.{Kind}
-pub use Rattle.wire.specs.declared.Reading.{Reading}
+pub use Rattle.reading.specs.declared.Reading.{Reading}
 pub use Rattle.sent.specs.declared.Message.{Message}
 pub use Rattle.sent.specs.declared.MessageAnswer.{MessageAnswer}
 pub use Rattle.sent.specs.declared.Sender.{Sender}

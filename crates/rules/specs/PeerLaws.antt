@@ -9,7 +9,7 @@ use lib.IntN.{ℤ, _+ℤ_, _-ℤ_}
 use Rattle.rules.specs.Names.{Time, Header, Identity, MaybeTime, MaybeIdentity, PeerState, Context, Port}
 use Rattle.time.specs.Units.{time, timeOf, correction}
 use Rattle.wire.specs.Layout.{twoStep}
-use Rattle.wire.specs.BytesLaws.{apart}
+use Rattle.bytes.specs.BytesLaws.{apart}
 use Rattle.record.specs.Record.{withPeer}
 use Rattle.fitness.specs.Fit.{slaveFull, unanswered}
 use Rattle.record.specs.Same.{sameIdentity}

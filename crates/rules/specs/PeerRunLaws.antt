@@ -8,7 +8,7 @@ use lib.IntN.{_+ℤ_, _-ℤ_}
 use Rattle.time.specs.declared.WireTimestamp.{WireTimestamp}
 use Rattle.time.specs.Units.{time, duration, half, correction}
 use Rattle.wire.specs.Layout.{twoStep}
-use Rattle.wire.specs.Reading.{readOf}
+use Rattle.reading.specs.Reading.{readOf}
 use Rattle.record.specs.Record.{isFaulty, withPeer}
 use Rattle.record.specs.SameLaws.{same-identity}
 use Rattle.rules.specs.Names.{Time, Duration, Identity, Header, Body, Reading, MaybeTime, MaybeIdentity, PeerState, Port, Context, Measurement}

@@ -3,7 +3,7 @@ use mathlib.Core.Path.{_≡_, refl, sym, ap, _∙_, subst}
 use mathlib.Core.Bool.{Bool, true, false}
 use mathlib.Core.List.{[]}
 use Prim.Native.Nat.{ℕ}
-use Rattle.wire.specs.BytesLaws.{apart}
+use Rattle.bytes.specs.BytesLaws.{apart}
 use Rattle.rules.specs.Names.{Port, MaybeMeasurement, Outcome}
 use Rattle.fitness.specs.Fit.{unfit}
 use Rattle.rules.specs.Worked.{Worked, worked, refused}

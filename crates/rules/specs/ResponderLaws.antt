@@ -10,9 +10,9 @@ use Rattle.time.specs.Units.{time, timeWords, duration, wire, correction, half}
 use Rattle.wire.specs.declared.MessageType.the-variants as M
 use Rattle.wire.specs.Layout.{messageBytes, twoStepFlag, twoStep, timestampOf}
 use Rattle.wire.specs.LayoutLaws.{InWidths, HeaderWidths, header-widths}
-use Rattle.wire.specs.Bytes.{Bytes}
-use Rattle.wire.specs.Reading.{readOf}
-use Rattle.wire.specs.ReadingLaws.{message-is}
+use Rattle.bytes.specs.Bytes.{Bytes}
+use Rattle.reading.specs.Reading.{readOf}
+use Rattle.reading.specs.ReadingLaws.{message-is}
 use Rattle.sent.specs.declared.Carried.the-variants as S
 use Rattle.sent.specs.declared.Carried.{Carried}
 use Rattle.sent.specs.Messages.{headerFor, noFlag, noInterval, answerStamp, followStamp, pDelayRespOf, pDelayRespFollowUpOf}

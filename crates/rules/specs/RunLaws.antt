@@ -5,7 +5,7 @@ use mathlib.Core.Bool.{false}
 use lib.IntN.{ℤ, _+ℤ_, _-ℤ_}
 use Rattle.time.specs.Units.{time, correction}
 use Rattle.time.specs.Laws.{IsTime}
-use Rattle.wire.specs.BytesLaws.{neither}
+use Rattle.bytes.specs.BytesLaws.{neither}
 use Rattle.record.specs.Record.{withSlave, withSync, withDelay, withPeer}
 use Rattle.fitness.specs.Fit.{full, unfit}
 use Rattle.rules.specs.Names.{Time, Header, Exchange, SlaveState, PeerState, Port, Outcome}

@@ -6,9 +6,9 @@ use lib.IntN.{ℤ, pos}
 use Rattle.time.specs.declared.WireTimestamp.{WireTimestamp}
 use Rattle.time.specs.Units.{time, inTime, timeWords, timeOf, signed, duration, inDuration, durationWords, durationOf, wire, timeOfWire, wireOf, correction, half, halfOf}
 use Rattle.timers.specs.Timers as Timers
-use Rattle.wire.specs.Bytes.{number, fieldAt, spell, bytesOf}
+use Rattle.bytes.specs.Bytes.{number, fieldAt, spell, bytesOf}
 use Rattle.wire.specs.Layout.{sdoId, twoStep, twoStepFlag, timestampEntries, timestampAt, identityEntries, identityAt, headerEntries, headerOf, kindOf, bodyEntries, bodyOf, typeOf, messageEntries, messageBytes, sequenceId}
-use Rattle.wire.specs.Reading.{row4, row5, messageOf, readOf}
+use Rattle.reading.specs.Reading.{row4, row5, messageOf, readOf}
 use Rattle.sent.specs.Messages.{headerFor, noFlag, noInterval, zeroTimestamp, correctionOf, answerStamp, followStamp, syncOf, delayReqOf, followUpOf, pDelayReqOf, pDelayRespOf, delayRespOf, pDelayRespFollowUpOf}
 use Rattle.record.specs.Record.{withSlave, slaveOf, portOf}
 use Rattle.record.specs.Ids.{idAfter}

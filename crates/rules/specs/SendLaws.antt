@@ -15,7 +15,7 @@ use Rattle.time.specs.Lemmas.Integers.{not-below}
 use Rattle.sent.specs.declared.Carried.{Carried}
 use Rattle.sent.specs.Messages.{inCorrection, followStamp, answerStamp, carrying, followUpOf, delayRespOf, pDelayRespOf, pDelayRespFollowUpOf}
 use Rattle.sent.specs.CarriedLaws.{unitsOf, lateFrom, lessOf, follow-out-when, follow-out-is, answer-out-when, answer-out-is}
-use Rattle.wire.specs.BytesLaws.{apart}
+use Rattle.bytes.specs.BytesLaws.{apart}
 use Rattle.record.specs.Record.{isMaster}
 use Rattle.rules.specs.Worked.{worked, _then_, aMessage}
 use Rattle.rules.specs.Events.{sending}

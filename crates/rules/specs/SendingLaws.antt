@@ -11,9 +11,9 @@ use lib.ListN.{length}
 use Rattle.timers.specs.Timers as Timers
 use Rattle.timers.specs.TimerLaws.{sync-in, delay-in}
 use Rattle.wire.specs.declared.MessageType.the-variants as M
-use Rattle.wire.specs.BytesLaws.{apart}
+use Rattle.bytes.specs.BytesLaws.{apart}
 use Rattle.wire.specs.Layout.{row, typeOf}
-use Rattle.wire.specs.Reading.{readOf}
+use Rattle.reading.specs.Reading.{readOf}
 use Rattle.wire.specs.LayoutLaws.{length-message}
 use Rattle.sent.specs.Messages.{followUpOf, delayRespOf}
 use Rattle.record.specs.Record.{isMaster, isSlave, asSlave, withSync, withDelay, withSlave, withPeer}

@@ -5,7 +5,7 @@ use mathlib.Core.Bool.{false, _&&_}
 use Rattle.rules.specs.Names.{Time, Identity, MaybeTime, Exchange, SlaveState, PortState, PeerState, Port}
 use Rattle.record.specs.Record.{asSlave, withSlave, withSync, withDelay, withPeer}
 use Rattle.fitness.specs.Fit.{full, slaveFull, peerFull, there}
-use Rattle.wire.specs.BytesLaws.{neither, apart}
+use Rattle.bytes.specs.BytesLaws.{neither, apart}
 use Rattle.rules.specs.Worked.{Worked}
 use Rattle.rules.specs.Events.{Done, nothing}
 use Rattle.rules.specs.Measuring.{both, complete, peerComplete, measureSync, measureDelay, measurePeer, settle}

@@ -5,7 +5,7 @@ use mathlib.Core.List.{[]}
 use Prim.Native.Nat.{ℕ}
 use lib.IntN.{ℤ, _+ℤ_, _-ℤ_}
 use Rattle.time.specs.Units.{time, correction}
-use Rattle.wire.specs.Reading.{readOf}
+use Rattle.reading.specs.Reading.{readOf}
 use Rattle.record.specs.Record.{stateNumber, isMaster, isFaulty, isSlave, withSync, withDelay, withSlave, withPeer}
 use Rattle.fitness.specs.Fit.{there}
 use Rattle.record.specs.Same.{sameIdentity}

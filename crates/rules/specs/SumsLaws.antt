@@ -6,7 +6,7 @@ use mathlib.Core.List.{_++_}
 use lib.IntN.{ℤ, _+ℤ_, _-ℤ_}
 use Rattle.rules.specs.Names.{Time, Identity, Header, Body, PortState, Context, Port}
 use Rattle.time.specs.Units.{time, correction}
-use Rattle.wire.specs.BytesLaws.{neither}
+use Rattle.bytes.specs.BytesLaws.{neither}
 use Rattle.record.specs.Record.{withState}
 use Rattle.fitness.specs.Fit.{syncTimeless, slaveFull, unfit, full, unanswered, peerFull, anyOut, slaveTimes, peerTimes, configOut}
 use Rattle.record.specs.Same.{sameIdentity}

@@ -7,7 +7,7 @@ use lib.IntN.{ℤ, _+ℤ_, _-ℤ_}
 use Rattle.rules.specs.Names.{Time, Header, MaybeTime, Exchange, SlaveState, Port}
 use Rattle.time.specs.Units.{time, correction}
 use Rattle.wire.specs.Layout.{twoStep}
-use Rattle.wire.specs.BytesLaws.{apart}
+use Rattle.bytes.specs.BytesLaws.{apart}
 use Rattle.record.specs.Record.{withSlave, withSync}
 use Rattle.fitness.specs.Fit.{there, full, timeless, peerFull}
 use Rattle.record.specs.Same.{sameIdentity}

@@ -5,7 +5,7 @@ use mathlib.Core.List.{List, [], _∷_}
 use lib.Dec.{ltb, eqb}
 use Rattle.rules.specs.Names.{Kind, Header, Config, Port, Outcome}
 use Rattle.wire.specs.Layout.{headerOf, sdoId}
-use Rattle.wire.specs.Reading as Wire
+use Rattle.reading.specs.Reading as Wire
 use Rattle.fitness.specs.Fit.{timeOut, drawOut, unfit}
 use Rattle.rules.specs.Events.{Event, event, general, stamp, syncTimer, delayTimer, filterAnswer, setState}
 use Rattle.rules.specs.WorkedOut.{row7}

@@ -8,10 +8,10 @@ use Rattle.rules.specs.Names.{Time, Header, Body, Reading, Kind, TimerAn
 use Rattle.time.specs.Units.{timeWords, wire}
 use Rattle.timers.specs.Timers.{inDraw, delayTimerOf}
 use Rattle.timers.specs.TimerLaws.{sync-in, delay-in}
-use Rattle.wire.specs.Bytes.{Bytes}
+use Rattle.bytes.specs.Bytes.{Bytes}
 use Rattle.wire.specs.Layout.{headerOf, bodyOf, timestampAt, body}
-use Rattle.wire.specs.Reading as Wire
-use Rattle.wire.specs.ReadingLaws.{version-when, malformed-when, host-when, message-of-bytes, past-row5}
+use Rattle.reading.specs.Reading as Wire
+use Rattle.reading.specs.ReadingLaws.{version-when, malformed-when, host-when, message-of-bytes, past-row5}
 use Rattle.record.specs.Record.{isMaster, asSlave}
 use Rattle.fitness.specs.Fit.{unfit, drawOut}
 use Rattle.fitness.specs.FitLaws.{FitConfig, config-is, fit-is}

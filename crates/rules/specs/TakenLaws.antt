@@ -8,10 +8,10 @@ use lib.IntN.{pos}
 use Rattle.time.specs.declared.WireTimestamp.{WireTimestamp}
 use Rattle.time.specs.declared.ReadAnswer.the-variants as R
 use Rattle.time.specs.Units.{time, timeWords, wire, timeOfWire}
-use Rattle.wire.specs.BytesLaws.{apart}
+use Rattle.bytes.specs.BytesLaws.{apart}
 use Rattle.wire.specs.Layout.{timestampOf}
-use Rattle.wire.specs.Reading.{readOf}
-use Rattle.wire.specs.ReadingLaws.{message-is}
+use Rattle.reading.specs.Reading.{readOf}
+use Rattle.reading.specs.ReadingLaws.{message-is}
 use Rattle.rules.specs.Names.{Time, Header, Body, Reading, Config, Port, Outcome}
 use Rattle.rules.specs.Worked.{Worked, refused}
 use Rattle.rules.specs.Events.{Event, event, general, stamp, syncTimer, delayTimer, filterAnswer, setState, Done, Brings}

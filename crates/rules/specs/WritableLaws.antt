@@ -8,8 +8,8 @@ use lib.Dec.{lit≤}
 use lib.ListN.{length}
 use Rattle.wire.specs.Layout.{messageBytes}
 use Rattle.wire.specs.LayoutLaws.{HeaderWidths, header-widths}
-use Rattle.wire.specs.Reading.{readOf}
-use Rattle.wire.specs.ReadingLaws.{message-is}
+use Rattle.reading.specs.Reading.{readOf}
+use Rattle.reading.specs.ReadingLaws.{message-is}
 use Rattle.writing.specs.declared.Written.the-variants as W
 use Rattle.writing.specs.Writing.{writeOf}
 use Rattle.sent.specs.SentLaws.{InLimits, Sendable, sync-sends, delay-req-sends, pdelay-req-sends, follow-up-sends, delay-resp-sends, pdelay-resp-sends, pdelay-resp-follow-up-sends}

@@ -16,7 +16,7 @@ use Rattle.time.specs.Units.{spelled, time, wire, wireOf, signed, correction}
 use Rattle.time.specs.Laws.{signed-low}
 use Rattle.time.specs.WireLaws.{Sent, wire-is, wire-sent, wire-out, wire-out-is}
 use Rattle.time.specs.Lemmas.Integers.{pos-sub, negsuc-sub, difference-is, product-is, not-below}
-use Rattle.wire.specs.BytesLaws.{apart}
+use Rattle.bytes.specs.BytesLaws.{apart}
 use Rattle.sent.specs.declared.CorrectionAnswer.{CorrectionAnswer}
 use Rattle.sent.specs.declared.CorrectionAnswer.the-variants as C
 use Rattle.sent.specs.declared.Carried.the-variants as S

@@ -6,7 +6,7 @@ use lib.IntN.{pos}
 use Rattle.time.specs.declared.Time.{Time}
 use Rattle.time.specs.Units.{time, timeWords, signed, wireOf}
 use Rattle.wire.specs.declared.Header.{Header}
-use Rattle.wire.specs.Bytes.{spell, bytesOf}
+use Rattle.bytes.specs.Bytes.{spell, bytesOf}
 use Rattle.wire.specs.Layout.{headerEntries, identityEntries, timestampEntries, bodyEntries, messageEntries, messageBytes}
 use Rattle.sent.specs.declared.Sender.{Sender}
 use Rattle.sent.specs.declared.Message.{Message}

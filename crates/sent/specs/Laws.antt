@@ -12,7 +12,7 @@ use Rattle.time.specs.Laws.{was-value, was-refused, signed-low, signed-high}
 use Rattle.time.specs.Lemmas.Integers.{sub-ge, sub-lt, pos-minus, pos-sub, difference-is}
 use Rattle.sent.specs.declared.CorrectionAnswer.the-variants as C
 use Rattle.sent.specs.Messages.{inCorrection, word, correctionOf}
-use Rattle.wire.specs.BytesLaws.{apart}
+use Rattle.bytes.specs.BytesLaws.{apart}
 
 -- as one bound of ℕ: `mag z` is n both for n and for -(n + 1)
 in-correction : (z : ℤ) → inCorrection z ≡ ltb (mag z) (2 ^ 63)

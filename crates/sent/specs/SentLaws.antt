@@ -16,10 +16,10 @@ use Rattle.wire.specs.declared.Header.{Header}
 use Rattle.wire.specs.declared.MessageType.{MessageType}
 use Rattle.wire.specs.declared.Body.{Body}
 use Rattle.wire.specs.declared.Body.the-variants as B
-use Rattle.wire.specs.declared.Reading.the-variants as G
+use Rattle.reading.specs.declared.Reading.the-variants as G
 use Rattle.wire.specs.Layout.{row, body, typeOf, timestampOf, restIn, restEntries, headerEntries, identityEntries, timestampEntries, bodyEntries, messageEntries, messageBytes, twoStepFlag, sdoId}
-use Rattle.wire.specs.Reading.{readOf}
-use Rattle.wire.specs.BytesLaws.{apart, Fits}
+use Rattle.reading.specs.Reading.{readOf}
+use Rattle.bytes.specs.BytesLaws.{apart, Fits}
 use Rattle.wire.specs.LayoutLaws.{length-message, row-bounds, InWidths}
 use Rattle.writing.specs.declared.Written.the-variants as W
 use Rattle.writing.specs.Writing.{fitsOf, writeOf, isTime}

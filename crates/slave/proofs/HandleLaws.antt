@@ -126,23 +126,3 @@ module _ (p : Port) (id : ℕ) (t : Time) where
   pub peer-stamp-kept : stamped p t (Context.PDelayReq id) ≡ keptPeer p (withPeer p) (peerChange (worked (peerStamped id t (p .peer))))
   unfolding stamped
   peer-stamp-kept = sym (kept-peer-is p (withPeer p) (worked (peerStamped id t (p .peer))))
-
--- ---- our own request, end to end
-
-module _ (p : Port) (draw : ℕ) where
-  pub request-nobody : slaveIn (p .state) ≡ MaybeSlave.None → request p draw Mechanism.EndToEnd ≡ nothing p
-  request-nobody e = slave-is (p .state) MaybeSlave.None (nothing p) _ e
-
-  module _ (s : SlaveState) (slave : slaveIn (p .state) ≡ MaybeSlave.Some s) where
-    request-timer : (a : TimerAnswer) → delayTimerOf (p .config .«delay_interval») draw ≡ a → request p draw Mechanism.EndToEnd ≡ (aTimer a then λ ns. worked (delaySent p s ns))
-    request-timer a e =
-        slave-is (p .state) (MaybeSlave.Some s) (nothing p) _ slave ∙ ap (λ (x : TimerAnswer). aTimer x then λ ns. worked (delaySent p s ns)) e
-
-    pub request-sent : (ns : ℕ) → delayTimerOf (p .config .«delay_interval») draw ≡ TimerAnswer.Value ns → request p draw Mechanism.EndToEnd ≡ worked (delaySent p s ns)
-    request-sent ns e = request-timer (TimerAnswer.Value ns) e
-
-    pub request-unfit : delayTimerOf (p .config .«delay_interval») draw ≡ TimerAnswer.Interval → request p draw Mechanism.EndToEnd ≡ refused Outcome.Unfit
-    request-unfit e = request-timer TimerAnswer.Interval e
-
-    pub request-limits : delayTimerOf (p .config .«delay_interval») draw ≡ TimerAnswer.Draw → request p draw Mechanism.EndToEnd ≡ refused Outcome.Limits
-    request-limits e = request-timer TimerAnswer.Draw e

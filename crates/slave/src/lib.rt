@@ -4,7 +4,6 @@
 
 mod answers;
 mod keeping;
-mod requests;
 
 use record::Port;
 

@@ -14,7 +14,7 @@ use time::WireAnswer;
 use time::WireTimestamp;
 use time::WordsAnswer;
 use timers::TimerAnswer;
-ghost use Prim.Native.Nat.{_+_, _≤_, _<_};
+ghost use Prim.Native.Nat.{_≤_};
 
 struct Words {
     a: u64,
@@ -23,29 +23,11 @@ struct Words {
     d: u64,
 }
 
-// The value of a hexadecimal digit in lower case, or 0.
-fn digit(x: u8) -> u64
-    ensures { λ r. ⌜ r < 16 ⌝ }
-{
-    match x {
-        48..=57 => (x - 48) as u64,
-        97..=102 => (x - 87) as u64,
-        _ => 0,
-    }
-}
-
 // The 16 digits from a place of a line.
 fn word(line: &[u8; 70], at: usize) -> u64
     requires { ⌜ at ≤ 54 ⌝ }
 {
-    let mut value: u64 = 0;
-    let mut i = 0;
-    while i < 16 {
-        let d = digit(line[at + i]);
-        value = value % 0x1000_0000_0000_0000 * 16 + d;
-        i += 1;
-    }
-    value
+    questions::number(line, at, 16)
 }
 
 fn number(n: u64) {

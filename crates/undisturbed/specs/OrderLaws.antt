@@ -6,7 +6,7 @@ use mathlib.Core.List.{List, [], _∷_, _++_}
 use mathlib.Core.Option.{Option, none, some}
 use borrow.Author.Tests.{not-true}
 use lib.IntN.{ℤ}
-use Rattle.wire.specs.BytesLaws.{both}
+use Rattle.bytes.specs.BytesLaws.{both}
 use Rattle.rules.specs.Names.{Mechanism, Config}
 use Rattle.rules.specs.Events.{Event}
 use Rattle.rules.specs.WorkedOut.{Completed}

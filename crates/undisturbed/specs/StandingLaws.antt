@@ -2,7 +2,7 @@
 use Prim.Native.Nat.{ℕ}
 use mathlib.Core.Path.{_≡_, refl, sym, ap, _∙_}
 use mathlib.Core.Bool.{Bool, true, false, cond}
-use Rattle.wire.specs.BytesLaws.{apart}
+use Rattle.bytes.specs.BytesLaws.{apart}
 use Rattle.fitness.specs.Fit.{configOut, unfit}
 use Rattle.fitness.specs.FitLaws.{FitSync, FitDelay, FitPeer, fit-is, fit-when}
 use Rattle.rules.specs.Names.{Identity, MaybeDuration, Exchange, SlaveState, PortState, PeerState, Mechanism, Config, Ids, Port, Outcome}

@@ -6,7 +6,7 @@ use mathlib.Core.List.{List, [], _∷_, _++_}
 use mathlib.Core.Option.{Option, none, some}
 use lib.IntN.{ℤ}
 use Rattle.time.specs.Units.{time}
-use Rattle.wire.specs.BytesLaws.{apart, neither}
+use Rattle.bytes.specs.BytesLaws.{apart, neither}
 use Rattle.fitness.specs.Fit.{there}
 use Rattle.rules.specs.Names.{Time, MaybeTime, Mechanism, Config}
 use Rattle.rules.specs.Events.{Event}

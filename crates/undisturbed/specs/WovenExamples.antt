@@ -5,8 +5,8 @@ use mathlib.Core.Bool.{Bool, true, false, _&&_, true≢false}
 use mathlib.Core.List.{List, [], _∷_}
 use lib.ListN.{length, replicate}
 use lib.Dec.{eqb}
-use Rattle.wire.specs.Bytes.{bytesOf}
-use Rattle.wire.specs.BytesLaws.{both}
+use Rattle.bytes.specs.Bytes.{bytesOf}
+use Rattle.bytes.specs.BytesLaws.{both}
 use Rattle.wire.specs.Layout.{headerEntries, messageBytes, twoStepFlag}
 use Rattle.wire.specs.declared.MessageType.the-variants as M
 use Rattle.sent.specs.Messages.{headerFor, noFlag, noInterval}

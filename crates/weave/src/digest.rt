@@ -1,6 +1,6 @@
 // Everything of an answer in one word, so that two answers can be held against each other.
 ghost use mathlib.Core.Path.{_≡_};
-ghost use Prim.Native.Nat.{_+_, _*_, _/_, _%_, _^_};
+ghost use Prim.Native.Nat.{_+_, _*_, _/_, _%_, _^_, _≤_};
 use crate::chance::Chance;
 use record::Action;
 use record::Answer;
@@ -8,6 +8,8 @@ use record::Context;
 use record::MaybeDuration;
 use record::MaybeMeasurement;
 use record::Measurement;
+use record::Outcome;
+use record::Todo;
 use time::Duration;
 use time::Time;
 use wire::Identity;
@@ -46,7 +48,7 @@ fn fold_identity(d: u64, who: Identity) -> u64 {
     fold(fold(d, who.clock), who.port as u64)
 }
 
-pub(crate) fn fold_measurement(d: u64, m: MaybeMeasurement) -> u64 {
+fn fold_measurement(d: u64, m: MaybeMeasurement) -> u64 {
     match m {
         MaybeMeasurement::None => fold(d, 0),
         MaybeMeasurement::Some(measured) => match measured {
@@ -112,17 +114,68 @@ fn fold_packet(d: u64, packet: &[u8], n: usize) -> u64 {
     out
 }
 
-// All of an answer but its record, which is compared at the end of a block.
-pub(crate) fn of_answer(a: Answer, packet: &[u8]) -> u64 {
+// 0 for no measurement, 1 for an offset, 2 for a delay, 3 for a peer's.
+fn kind_of(m: MaybeMeasurement) -> u8
+    ensures { λ r. ⌜ r ≤ 3 ⌝ }
+{
+    match m {
+        MaybeMeasurement::None => 0,
+        MaybeMeasurement::Some(measured) => match measured {
+            Measurement::Sync {
+                event_time: _,
+                raw: _,
+                offset: _,
+            } => 1,
+            Measurement::Delay {
+                event_time: _,
+                raw: _,
+                delay: _,
+            } => 2,
+            Measurement::Peer {
+                event_time: _,
+                delay: _,
+            } => 3,
+        },
+    }
+}
+
+fn fold_actions(d: u64, actions: [Todo; 2]) -> u64 {
+    let first = actions[0];
+    let second = actions[1];
+    let first = first.action;
+    let second = second.action;
+    fold_action(fold_action(d, first), second)
+}
+
+// An answer's number, what it measures and a digest of that, and a digest of all of it but its record, which is compared at the
+// end of a block.
+pub struct Told {
+    pub number: u8,
+    pub kind: u8,
+    pub measured: u64,
+    pub all: u64,
+}
+
+impl Told {
+    fn new(outcome: Outcome, m: MaybeMeasurement) -> Told {
+        let number = outcome.number();
+        let measured = fold_measurement(0, m);
+        Told {
+            number,
+            kind: kind_of(m),
+            measured,
+            all: fold(number as u64, measured),
+        }
+    }
+}
+
+pub(crate) fn of_answer(a: Answer, packet: &[u8]) -> Told {
     let outcome = a.outcome;
-    let measurement = a.measurement;
-    let first = a.actions[0];
-    let second = a.actions[1];
-    let first_action = first.action;
-    let second_action = second.action;
-    let told = fold_measurement(fold(0, outcome.number() as u64), measurement);
-    let sent = fold_packet(fold(told, a.length as u64), packet, a.length);
-    let counted = fold(sent, a.count as u64);
-    let acted = fold_action(fold_action(counted, first_action), second_action);
-    fold_bool(acted, a.reset)
+    let m = a.measurement;
+    let actions = a.actions;
+    let mut out = Told::new(outcome, m);
+    let sent = fold_packet(fold(out.all, a.length as u64), packet, a.length);
+    let acted = fold_actions(fold(sent, a.count as u64), actions);
+    out.all = fold_bool(acted, a.reset);
+    out
 }

@@ -1,27 +1,6 @@
 // What happens to the port, as small values: a block of events is kept while it is run twice.
 ghost use Prim.Native.Nat.{_≤_};
 use crate::chance::Chance;
-use record::Context;
-use wire::Identity;
-
-// A message, but for its times and its correction. Type 11 is written as a Sync and then given its number. So many bytes of it
-// are lent to the port.
-pub struct Said {
-    pub number: u8,
-    pub flags: u16,
-    pub domain: u8,
-    pub id: u16,
-    pub source: Identity,
-    pub requester: Identity,
-    pub lent: u8,
-}
-
-pub enum What {
-    Heard(Said),
-    Request,
-    Left(Context),
-    Filter,
-}
 
 // What an event is a part of. An exchange's last event measures; no other does.
 pub enum Part {
@@ -34,12 +13,13 @@ pub enum Part {
     PeerEnd,
 }
 
-// Times, corrections and the rest are drawn from seed, so that an event is the same in both runs.
+// Up to 19 the message in that row of says is heard, at 20 our request is due, at 21 to 23 a DelayReq, a PDelayReq or a PDelayResp
+// of ours has left, and at 24 the filter answers. Times, corrections and the rest are drawn from seed, so that an event is the same in both runs.
 pub struct Happening {
-    pub what: What,
+    pub what: u8,
     pub part: Part,
+    pub id: u16,
     pub seed: Chance,
-    pub answer: u8,
 }
 
 impl Part {

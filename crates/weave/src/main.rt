@@ -1,10 +1,10 @@
 // Exchanges do not disturb each other: blocks of mixed exchanges of a Slave are run through the port twice, once as they come and
 // once with each exchange gathered at its last event, and the answers to each event, the measurements in their order and the
 // records at each block's end are compared. Nothing is read. A line is written for each block in which something differs.
+mod bringing;
 mod chance;
 mod digest;
 mod events;
-mod host;
 mod making;
 mod order;
 mod running;
@@ -13,22 +13,31 @@ mod says;
 use chance::Chance;
 use libc::STDOUT_FILENO;
 use making::Block;
+use making::Made;
+use order::Row;
 use record::Config;
 use record::Ids;
 use record::Mechanism;
 use record::Port;
 use record::SlaveState;
 use running::Counts;
+use running::Ran;
+use running::Seen;
 use time::Duration;
 
-// What one block hands to the next. The counts of the two orders are kept apart.
-struct Day {
-    port: Port,
-    chance: Chance,
+// The counts of the two orders are kept apart.
+struct Tally {
     given: Counts,
     gathered: Counts,
     moved: u64,
     differences: u64,
+}
+
+// What one block hands to the next.
+struct Day {
+    port: Port,
+    chance: Chance,
+    tally: Tally,
 }
 
 fn mechanism(peer: bool) -> Mechanism {
@@ -38,9 +47,8 @@ fn mechanism(peer: bool) -> Mechanism {
     Mechanism::EndToEnd
 }
 
-// A Slave that has heard nothing. Its ids begin where they soon go over to 0.
-fn slave(peer: bool) -> Port {
-    let config = Config {
+fn config(peer: bool) -> Config {
+    Config {
         identity: says::us(),
         sdo: 0x123,
         domain: says::DOMAIN,
@@ -52,13 +60,17 @@ fn slave(peer: bool) -> Port {
             hi: u64::MAX,
             lo: 0xffff_fff0_0000_0003,
         },
-    };
+    }
+}
+
+// A Slave that has heard nothing. Its ids begin where they soon go over to 0.
+fn slave(peer: bool) -> Port {
     let ids = Ids {
         sync: 65_000,
         delay: 65_000,
         peer: 65_000,
     };
-    let fresh = Port::new(config).with_ids(ids);
+    let fresh = Port::new(config(peer)).with_ids(ids);
     fresh.with_slave(SlaveState::new(says::master()))
 }
 
@@ -94,32 +106,76 @@ fn tell_block(peer: bool, block: u64, differences: u64) {
     tell(differences, b" differences\n");
 }
 
-// One block in both orders. The next goes on from the record that the given order left.
+// A block in both orders.
+struct Both {
+    block: Block,
+    given: Row,
+    gathered: Row,
+}
+
+impl Both {
+    fn new(chance: Chance, peer: bool, id: u16) -> Both {
+        let made = Made::new(chance, peer, id);
+        let block = made.block;
+        let given = order::woven(made.syncs, made.rest, block.count, block.chance);
+        let gathered = order::gathered(block, given);
+        Both {
+            block,
+            given,
+            gathered,
+        }
+    }
+}
+
+impl Both {
+    fn moved(self) -> u64 {
+        let given = self.given;
+        given.moved(self.gathered)
+    }
+
+    // What the next block's throws begin with.
+    fn chance(self) -> Chance {
+        let block = self.block;
+        block.chance.next().next()
+    }
+}
+
+impl Tally {
+    fn with(self, given: Seen, gathered: Seen, moved: u64, differences: u64) -> Tally {
+        let given = given.counts;
+        let gathered = gathered.counts;
+        Tally {
+            given,
+            gathered,
+            moved: std::num::wrapping_add_u64(self.moved, moved),
+            differences: std::num::wrapping_add_u64(self.differences, differences),
+        }
+    }
+}
+
+// The next block goes on from the record that the given order left.
+fn next_day(a: Ran, b: Ran, both: Both, tally: Tally, differences: u64) -> Day {
+    let port = a.port;
+    let chance = both.chance();
+    let tally = tally.with(a.seen, b.seen, both.moved(), differences);
+    Day {
+        port,
+        chance,
+        tally,
+    }
+}
+
+// One block in both orders.
 fn turn(day: Day, peer: bool, number: u64, given: &mut [u8], gathered: &mut [u8]) -> Day {
     let port = day.port;
-    let id = next_id(port, peer);
-    let syncs = Block::new(day.chance).with_syncs(id);
-    let request = syncs.with_request(peer, id);
-    let block = request.with_others(id);
-    let chance = block.chance;
-    let as_given = order::woven(syncs.count, request.count, block.count, chance);
-    let as_gathered = order::gathered(block, as_given);
-    let a = running::run(block, as_given, port, day.given, given);
-    let b = running::run(block, as_gathered, port, day.gathered, gathered);
+    let tally = day.tally;
+    let both = Both::new(day.chance, peer, next_id(port, peer));
+    let block = both.block;
+    let a = running::run(block, both.given, port, tally.given, given);
+    let b = running::run(block, both.gathered, port, tally.gathered, gathered);
     let differences = a.differences(b);
     tell_block(peer, number, differences);
-    let after = a.port;
-    let given_counts = a.counts;
-    let gathered_counts = b.counts;
-    let moved = as_given.moved(as_gathered);
-    Day {
-        port: after,
-        chance: chance.next().next(),
-        given: given_counts,
-        gathered: gathered_counts,
-        moved: std::num::wrapping_add_u64(day.moved, moved),
-        differences: std::num::wrapping_add_u64(day.differences, differences),
-    }
+    next_day(a, b, both, tally, differences)
 }
 
 fn tell_counts(counts: Counts) {
@@ -136,37 +192,48 @@ fn tell_counts(counts: Counts) {
     io::write_all(STDOUT_FILENO, b", NOT AS MANY AS EXCHANGES\n");
 }
 
-fn tell_day(peer: bool, day: Day) {
+fn tell_day(peer: bool, id: u16, tally: Tally) {
     tell_name(peer);
     io::write_all(STDOUT_FILENO, b"as given ");
-    tell_counts(day.given);
+    tell_counts(tally.given);
     tell_name(peer);
     io::write_all(STDOUT_FILENO, b"gathered ");
-    tell_counts(day.gathered);
+    tell_counts(tally.gathered);
     tell_name(peer);
-    tell(day.moved, b" places moved, the next request id is ");
-    tell(next_id(day.port, peer) as u64, b": ");
-    tell(day.differences, b" differences\n");
+    tell(tally.moved, b" places moved, the next request id is ");
+    tell(id as u64, b": ");
+    tell(tally.differences, b" differences\n");
+}
+
+impl Day {
+    fn new(peer: bool) -> Day {
+        let port = slave(peer);
+        let tally = Tally {
+            given: Counts::new(),
+            gathered: Counts::new(),
+            moved: 0,
+            differences: 0,
+        };
+        let chance = Chance {
+            state: 0x1588_2019_0000_0001,
+        };
+        Day {
+            port,
+            chance,
+            tally,
+        }
+    }
 }
 
 // So many blocks one after the other, each order with a packet buffer of its own.
 fn run_day(peer: bool, blocks: u64, given: &mut [u8], gathered: &mut [u8]) {
-    let mut day = Day {
-        port: slave(peer),
-        chance: Chance {
-            state: 0x1588_2019_0000_0001,
-        },
-        given: Counts::new(),
-        gathered: Counts::new(),
-        moved: 0,
-        differences: 0,
-    };
+    let mut day = Day::new(peer);
     let mut i: u64 = 0;
     while i < blocks {
         i += 1;
         day = turn(day, peer, i, given, gathered);
     }
-    tell_day(peer, day);
+    tell_day(peer, next_id(day.port, peer), day.tally);
 }
 
 fn main() {

@@ -5,10 +5,44 @@ ghost use Prim.Native.Nat.{_≤_};
 use crate::chance::Chance;
 use crate::events::Happening;
 use crate::events::Part;
-use crate::events::Said;
-use crate::events::What;
 use crate::says;
-use record::Context;
+
+// In a plan, no event.
+const NONE: u8 = 99;
+
+// The orders in which an exchange comes: a sync exchange of one step, and of two in either order; an end-to-end request with its
+// stamp and DelayResp in either order; a peer request, its stamp before or behind the one answer, and before, behind or between
+// two answers in either order.
+fn plan(n: u64) -> [u8; 4] {
+    match n {
+        0 => [NONE, NONE, NONE, 13],
+        1 => [NONE, NONE, 14, 15],
+        2 => [NONE, NONE, 15, 14],
+        3 => [NONE, 20, 21, 16],
+        4 => [NONE, 20, 16, 21],
+        5 => [NONE, 20, 22, 17],
+        6 => [NONE, 20, 17, 22],
+        7 => [20, 22, 18, 19],
+        8 => [20, 22, 19, 18],
+        9 => [20, 18, 19, 22],
+        10 => [20, 19, 18, 22],
+        11 => [20, 18, 22, 19],
+        _ => [20, 19, 22, 18],
+    }
+}
+
+// Which plan a peer request takes. Where there are two answers, their order is thrown when they come.
+fn peer_plan(chance: Chance) -> u64 {
+    let n = chance.below(5);
+    if n < 2 {
+        return 5 + n;
+    }
+    let asked = chance.next().next().next();
+    if n == 2 {
+        return 7 + asked.next().next().next().below(2);
+    }
+    n * 2 + 3 + asked.below(2)
+}
 
 pub struct Block {
     pub events: [Happening; 24],
@@ -21,10 +55,10 @@ impl Block {
         ensures { λ r. ⌜ r .count ≡ 0 ⌝ }
     {
         let nothing = Happening {
-            what: What::Filter,
+            what: 24,
             part: Part::Filter,
+            id: 0,
             seed: chance,
-            answer: 0,
         };
         Block {
             events: [nothing; 24],
@@ -42,36 +76,50 @@ impl Block {
     }
 
     // One event more, behind the others. A 25th finds no place.
-    fn with(mut self, what: What, part: Part, answer: u8) -> Block
+    fn with(mut self, what: u8, part: Part, id: u16) -> Block
         requires { ⌜ self .count ≤ 24 ⌝ }
         ensures { λ r. ⌜ (self .count ≤ r .count) × (r .count ≤ 24) ⌝ }
     {
         let at = self.count;
-        let chance = self.chance;
-        let first = chance.next();
-        let second = first.next();
-        let after = second.next();
+        let first = self.chance.next();
         let seed = Chance {
             state: first.word(),
         };
-        self.chance = after;
+        self.chance = first.next().next();
         if at < 24 {
             self.events[at] = Happening {
                 what,
                 part,
+                id,
                 seed,
-                answer,
             };
             self.count = at + 1;
         }
         self
     }
 
-    fn with_heard(self, said: Said, part: Part) -> Block
+    // The events of a plan, its last as the last part of an exchange.
+    fn with_plan(self, plan: [u8; 4], open: Part, last: Part, id: u16) -> Block
         requires { ⌜ self .count ≤ 24 ⌝ }
         ensures { λ r. ⌜ (self .count ≤ r .count) × (r .count ≤ 24) ⌝ }
     {
-        self.with(What::Heard(said), part, 0)
+        let mut block = self;
+        let mut i: usize = 0;
+        while i < 3 {
+            block = block.with_some(plan[i], open, id);
+            i += 1;
+        }
+        block.with_some(plan[3], last, id)
+    }
+
+    fn with_some(self, what: u8, part: Part, id: u16) -> Block
+        requires { ⌜ self .count ≤ 24 ⌝ }
+        ensures { λ r. ⌜ (self .count ≤ r .count) × (r .count ≤ 24) ⌝ }
+    {
+        if what == NONE {
+            return self;
+        }
+        self.with(what, part, id)
     }
 
     // One sync exchange: of one step, or of two in either order.
@@ -80,25 +128,12 @@ impl Block {
         ensures { λ r. ⌜ (self .count ≤ r .count) × (r .count ≤ 24) ⌝ }
     {
         let chance = self.chance;
-        let id = says::near(id, chance);
-        let master = says::master();
-        let two_steps = says::sync(master, id, true);
-        let follow_up = says::follow_up(master, id);
-        match chance.below(3) {
-            0 => self.with_heard(says::sync(master, id, false), Part::SyncEnd),
-            1 => {
-                let open = self.with_heard(two_steps, Part::Sync);
-                open.with_heard(follow_up, Part::SyncEnd)
-            }
-            _ => {
-                let open = self.with_heard(follow_up, Part::Sync);
-                open.with_heard(two_steps, Part::SyncEnd)
-            }
-        }
+        let plan = plan(chance.below(3));
+        self.with_plan(plan, Part::Sync, Part::SyncEnd, says::near(id, chance))
     }
 
     // One to three sync exchanges.
-    pub(crate) fn with_syncs(self, id: u16) -> Block
+    fn with_syncs(self, id: u16) -> Block
         requires { ⌜ self .count ≤ 24 ⌝ }
         ensures { λ r. ⌜ (self .count ≤ r .count) × (r .count ≤ 24) ⌝ }
     {
@@ -113,97 +148,17 @@ impl Block {
         block
     }
 
-    // The request of an end-to-end port, its stamp and its DelayResp, these two in either order.
-    fn with_delay(self, id: u16) -> Block
+    // The request that the port is set up for, under the id that it will take, and what answers it.
+    fn with_request(self, peer: bool, id: u16) -> Block
         requires { ⌜ self .count ≤ 24 ⌝ }
         ensures { λ r. ⌜ (self .count ≤ r .count) × (r .count ≤ 24) ⌝ }
     {
         let chance = self.chance;
-        let asked = self.with(What::Request, Part::Request, 0);
-        let stamp = What::Left(Context::DelayReq { id });
-        let response = says::delay_resp(says::master(), id, says::us());
-        if chance.below(2) == 0 {
-            let open = asked.with(stamp, Part::Request, 0);
-            return open.with_heard(response, Part::DelayEnd);
-        }
-        let open = asked.with_heard(response, Part::Request);
-        open.with(stamp, Part::DelayEnd, 0)
-    }
-
-    // What answers a peer request of ours in two steps, the follow-up first or last.
-    fn with_answers(self, id: u16, last: Part) -> Block
-        requires { ⌜ self .count ≤ 24 ⌝ }
-        ensures { λ r. ⌜ (self .count ≤ r .count) × (r .count ≤ 24) ⌝ }
-    {
-        let chance = self.chance;
-        let response = says::peer_resp(id, says::us(), true);
-        let follow_up = says::peer_follow_up(id, says::us());
-        if chance.below(2) == 0 {
-            let open = self.with_heard(response, Part::Request);
-            return open.with_heard(follow_up, last);
-        }
-        let open = self.with_heard(follow_up, Part::Request);
-        open.with_heard(response, last)
-    }
-
-    // The request of a peer-to-peer port, its stamp and its answer or answers.
-    fn with_peer(self, id: u16) -> Block
-        requires { ⌜ self .count ≤ 24 ⌝ }
-        ensures { λ r. ⌜ (self .count ≤ r .count) × (r .count ≤ 24) ⌝ }
-    {
-        let chance = self.chance;
-        let asked = self.with(What::Request, Part::Request, 0);
-        let stamp = What::Left(Context::PDelayReq { id });
-        let one_step = says::peer_resp(id, says::us(), false);
-        match chance.below(5) {
-            0 => {
-                let open = asked.with(stamp, Part::Request, 0);
-                open.with_heard(one_step, Part::PeerEnd)
-            }
-            1 => {
-                let open = asked.with_heard(one_step, Part::Request);
-                open.with(stamp, Part::PeerEnd, 0)
-            }
-            2 => {
-                let open = asked.with(stamp, Part::Request, 0);
-                open.with_answers(id, Part::PeerEnd)
-            }
-            3 => {
-                let open = asked.with_answers(id, Part::Request);
-                open.with(stamp, Part::PeerEnd, 0)
-            }
-            _ => asked.with_stamp_between(id),
-        }
-    }
-
-    // The stamp comes between the two answers.
-    fn with_stamp_between(self, id: u16) -> Block
-        requires { ⌜ self .count ≤ 24 ⌝ }
-        ensures { λ r. ⌜ (self .count ≤ r .count) × (r .count ≤ 24) ⌝ }
-    {
-        let chance = self.chance;
-        let stamp = What::Left(Context::PDelayReq { id });
-        let response = says::peer_resp(id, says::us(), true);
-        let follow_up = says::peer_follow_up(id, says::us());
-        if chance.below(2) == 0 {
-            let open = self.with_heard(response, Part::Request);
-            let stamped = open.with(stamp, Part::Request, 0);
-            return stamped.with_heard(follow_up, Part::PeerEnd);
-        }
-        let open = self.with_heard(follow_up, Part::Request);
-        let stamped = open.with(stamp, Part::Request, 0);
-        stamped.with_heard(response, Part::PeerEnd)
-    }
-
-    // The request that the port is set up for, under the id that it will take.
-    pub(crate) fn with_request(self, peer: bool, id: u16) -> Block
-        requires { ⌜ self .count ≤ 24 ⌝ }
-        ensures { λ r. ⌜ (self .count ≤ r .count) × (r .count ≤ 24) ⌝ }
-    {
         if peer {
-            return self.with_peer(id);
+            return self.with_plan(plan(peer_plan(chance)), Part::Request, Part::PeerEnd, id);
         }
-        self.with_delay(id)
+        let plan = plan(3 + chance.below(2));
+        self.with_plan(plan, Part::Request, Part::DelayEnd, id)
     }
 
     // Something that no exchange of ours is part of.
@@ -212,25 +167,19 @@ impl Block {
         ensures { λ r. ⌜ (self .count ≤ r .count) × (r .count ≤ 24) ⌝ }
     {
         let chance = self.chance;
-        let kind = chance.below(16);
+        let kind = chance.below(16) as u8;
         let id = says::near(id, chance);
-        if kind < 9 {
-            return self.with_heard(says::foreign(kind, id), Part::Foreign);
-        }
         if kind < 13 {
-            let answer = says::refusal(kind);
-            return self.with(What::Heard(says::refused(kind, id)), Part::Foreign, answer);
+            return self.with(kind, Part::Foreign, id);
         }
         if kind == 13 {
-            let requester = says::stranger();
-            let stamp = What::Left(Context::PDelayResp { id, requester });
-            return self.with(stamp, Part::Foreign, 0);
+            return self.with(23, Part::Foreign, id);
         }
-        self.with(What::Filter, Part::Filter, 0)
+        self.with(24, Part::Filter, id)
     }
 
     // Up to twelve of these.
-    pub(crate) fn with_others(self, id: u16) -> Block
+    fn with_others(self, id: u16) -> Block
         requires { ⌜ self .count ≤ 24 ⌝ }
         ensures { λ r. ⌜ (self .count ≤ r .count) × (r .count ≤ 24) ⌝ }
     {
@@ -243,5 +192,27 @@ impl Block {
             i += 1;
         }
         block
+    }
+}
+
+// A block, and where in it the request and then all else begin.
+pub struct Made {
+    pub block: Block,
+    pub syncs: usize,
+    pub rest: usize,
+}
+
+impl Made {
+    pub(crate) fn new(chance: Chance, peer: bool, id: u16) -> Made
+        ensures { λ r. ⌜ (r .syncs ≤ r .rest) × (r .rest ≤ r .block .count) × (r .block .count ≤ 24) ⌝ }
+    {
+        let syncs = Block::new(chance).with_syncs(id);
+        let request = syncs.with_request(peer, id);
+        let block = request.with_others(id);
+        Made {
+            block,
+            syncs: syncs.count,
+            rest: request.count,
+        }
     }
 }

@@ -67,10 +67,10 @@ impl Row {
     }
 }
 
-// A row under way, and which place of each of the three runs comes next.
+// Which place comes next, and which after it in each of the three runs.
 pub struct Weaving {
-    pub row: Row,
     pub chance: Chance,
+    pub place: usize,
     pub sync: usize,
     pub request: usize,
     pub free: usize,
@@ -80,12 +80,11 @@ impl Weaving {
     // One place more. Which run goes on is thrown, by how much of each is left.
     fn step(self, syncs: usize, rest: usize, count: usize) -> Weaving
         requires { ⌜ (self .sync ≤ syncs) × (self .request ≤ rest) × (self .free ≤ count) ⌝ }
-        requires { ⌜ (syncs ≤ 24) × (rest ≤ 24) × (count ≤ 24) × (self .row .count < 24) ⌝ }
+        requires { ⌜ (syncs ≤ 24) × (rest ≤ 24) × (count ≤ 24) ⌝ }
         requires { ⌜ self .sync + self .request + self .free < syncs + rest + count ⌝ }
-        ensures { λ r. ⌜ (r .sync ≤ syncs) × (r .request ≤ rest) × (r .free ≤ count) × (r .row .count ≡ self .row .count + 1) ⌝ }
+        ensures { λ r. ⌜ (r .sync ≤ syncs) × (r .request ≤ rest) × (r .free ≤ count) ⌝ }
         ensures { λ r. ⌜ r .sync + r .request + r .free ≡ self .sync + self .request + self .free + 1 ⌝ }
     {
-        let row = self.row;
         let now = self.chance;
         let chance = now.next();
         let sync = self.sync;
@@ -96,23 +95,23 @@ impl Weaving {
         let x = now.below((b + (count - free)) as u64) as usize;
         if x < a {
             return Weaving {
-                row: row.with(sync),
                 chance,
+                place: sync,
                 sync: sync + 1,
                 ..self
             };
         }
         if x < b {
             return Weaving {
-                row: row.with(request),
                 chance,
+                place: request,
                 request: request + 1,
                 ..self
             };
         }
         Weaving {
-            row: row.with(free),
             chance,
+            place: free,
             free: free + 1,
             ..self
         }
@@ -126,18 +125,18 @@ pub(crate) fn woven(syncs: usize, rest: usize, count: usize, chance: Chance) -> 
     ensures { λ r. ⌜ r .count ≡ count ⌝ }
 {
     let mut w = Weaving {
-        row: Row::new(),
         chance,
+        place: 0,
         sync: 0,
         request: syncs,
         free: rest,
     };
-    let mut left = count;
-    while 0 < left {
+    let mut row = Row::new();
+    while row.count < count {
         w = w.step(syncs, rest, count);
-        left -= 1;
+        row = row.with(w.place);
     }
-    w.row
+    row
 }
 
 // The places that are out, and those that wait for the end of their exchange.

@@ -1,15 +1,15 @@
 // A block run in one order, and two runs compared.
 ghost use mathlib.Core.Path.{_≡_};
 ghost use Prim.Native.Nat.{_+_, _%_, _^_, _≤_};
+use crate::bringing;
 use crate::digest;
+use crate::digest::Told;
 use crate::events::Happening;
 use crate::events::Part;
-use crate::host;
 use crate::making::Block;
 use crate::order::Row;
-use record::MaybeMeasurement;
-use record::Measurement;
-use record::Outcome;
+use crate::says;
+use port::Running;
 use record::Port;
 
 // How much there was of each kind, and how much was measured.
@@ -22,14 +22,18 @@ pub struct Counts {
     pub delays: u64,
 }
 
-// What a run leaves: a digest for each event at the event's place, one of the measurements in their order, and how many events
-// were not answered, or did not measure, as they should.
-pub struct Ran {
-    pub port: Port,
+// What a run leaves beside its record: a digest for each event at the event's place, one of the measurements in their order, and
+// how many events were not answered, or did not measure, as they should.
+pub struct Seen {
     pub digests: [u64; 24],
     pub measured: u64,
     pub wrong: u64,
     pub counts: Counts,
+}
+
+pub struct Ran {
+    pub port: Port,
+    pub seen: Seen,
 }
 
 fn more(n: u64) -> u64
@@ -97,37 +101,12 @@ impl Counts {
     }
 }
 
-// 0 for no measurement, 1 for an offset, 2 for a delay, 3 for a peer's.
-fn kind_of(m: MaybeMeasurement) -> u8
-    ensures { λ r. ⌜ r ≤ 3 ⌝ }
-{
-    match m {
-        MaybeMeasurement::None => 0,
-        MaybeMeasurement::Some(measured) => match measured {
-            Measurement::Sync {
-                event_time: _,
-                raw: _,
-                offset: _,
-            } => 1,
-            Measurement::Delay {
-                event_time: _,
-                raw: _,
-                delay: _,
-            } => 2,
-            Measurement::Peer {
-                event_time: _,
-                delay: _,
-            } => 3,
-        },
-    }
-}
-
 // The measurements so far and this one; where there is none, no change, as how many events lie between two is not compared.
-fn in_order(d: u64, m: MaybeMeasurement) -> u64 {
-    if kind_of(m) == 0 {
+fn in_order(d: u64, told: Told) -> u64 {
+    if told.kind == 0 {
         return d;
     }
-    digest::fold_measurement(d, m)
+    digest::fold(d, told.measured)
 }
 
 fn judged(wrong: u64, right: bool) -> u64 {
@@ -137,32 +116,27 @@ fn judged(wrong: u64, right: bool) -> u64 {
     more(wrong)
 }
 
-// What is kept of an answer.
-pub struct Brought {
-    pub port: Port,
-    pub outcome: Outcome,
-    pub measurement: MaybeMeasurement,
-    pub digest: u64,
+fn is_right(h: Happening, told: Told) -> bool {
+    let part = h.part;
+    (told.number == says::answer(h.what)) & (told.kind == part.measures())
 }
 
-fn answered(port: Port, h: Happening, packet: &mut [u8]) -> Brought {
-    let a = host::bring(port, h, packet);
-    let digest = digest::of_answer(a, packet);
-    let port = a.port;
-    let outcome = a.outcome;
-    let measurement = a.measurement;
-    Brought {
-        port,
-        outcome,
-        measurement,
-        digest,
+// In how many places two rows of digests are not the same.
+fn others(a: [u64; 24], b: [u64; 24]) -> u64 {
+    let mut n: u64 = 0;
+    let mut i: usize = 0;
+    while i < 24 {
+        if a[i] != b[i] {
+            n = more(n);
+        }
+        i += 1;
     }
+    n
 }
 
-impl Ran {
-    fn new(port: Port, counts: Counts) -> Ran {
-        Ran {
-            port,
+impl Seen {
+    fn new(counts: Counts) -> Seen {
+        Seen {
             digests: [0; 24],
             measured: 0,
             wrong: 0,
@@ -170,7 +144,7 @@ impl Ran {
         }
     }
 
-    fn with_digest(mut self, place: usize, d: u64) -> Ran {
+    fn with_digest(mut self, place: usize, d: u64) -> Seen {
         if place < 24 {
             self.digests[place] = d;
         }
@@ -178,59 +152,56 @@ impl Ran {
     }
 
     // What came of the event at a place of the block.
-    fn with(self, h: Happening, place: usize, b: Brought) -> Ran {
+    fn with(self, h: Happening, place: usize, told: Told) -> Seen {
         let part = h.part;
-        let outcome = b.outcome;
-        let m = b.measurement;
-        let port = b.port;
-        let kind = kind_of(m);
-        let right = (outcome.number() == h.answer) & (part.measures() == kind);
-        let counts = self.counts;
-        let after = counts.with_part(part).with_measured(kind);
-        let noted = self.with_digest(place, b.digest);
-        Ran {
-            port,
-            measured: in_order(self.measured, m),
-            wrong: judged(self.wrong, right),
-            counts: after,
+        let counts = self.counts.with_part(part).with_measured(told.kind);
+        let noted = self.with_digest(place, told.all);
+        Seen {
+            measured: in_order(self.measured, told),
+            wrong: judged(self.wrong, is_right(h, told)),
+            counts,
             ..noted
         }
     }
 
-    // How many events are answered otherwise in another run.
-    fn others(self, other: Ran) -> u64 {
-        let mut n: u64 = 0;
-        let mut i: usize = 0;
-        while i < 24 {
-            if self.digests[i] != other.digests[i] {
-                n = more(n);
-            }
-            i += 1;
-        }
-        n
+    // How much is wrong with two runs of a block, but for their records.
+    fn differences(self, other: Seen) -> u64 {
+        let a = self.digests;
+        let b = other.digests;
+        let wrong = std::num::wrapping_add_u64(self.wrong, other.wrong);
+        let both = std::num::wrapping_add_u64(others(a, b), wrong);
+        judged(both, self.measured == other.measured)
+    }
+}
+
+impl Ran {
+    // The event at a place of the block is brought to the port.
+    fn after(self, h: Happening, place: usize, packet: &mut [u8]) -> Ran {
+        let record = self.port;
+        let a = bringing::bring(Running { record }, h, packet);
+        let told = digest::of_answer(a, packet);
+        let port = a.port;
+        let seen = self.seen.with(h, place, told);
+        Ran { port, seen }
     }
 
     // How much is wrong with two runs of a block.
     pub(crate) fn differences(self, other: Ran) -> u64 {
         let port = self.port;
-        let events = self.others(other);
-        let wrong = std::num::wrapping_add_u64(self.wrong, other.wrong);
-        let both = std::num::wrapping_add_u64(events, wrong);
-        let measured = judged(both, self.measured == other.measured);
-        judged(measured, port.same(other.port))
+        let seen = self.seen.differences(other.seen);
+        judged(seen, same::same_port(port, other.port))
     }
 }
 
 // A block from a record on, in one order.
 pub(crate) fn run(block: Block, order: Row, port: Port, counts: Counts, packet: &mut [u8]) -> Ran {
-    let mut ran = Ran::new(port, counts);
+    let seen = Seen::new(counts);
+    let mut ran = Ran { port, seen };
     let mut i: usize = 0;
     while i < order.count {
         let place = order.at(i);
         i += 1;
-        let h = block.at(place);
-        let b = answered(ran.port, h, packet);
-        ran = ran.with(h, place, b);
+        ran = ran.after(block.at(place), place, packet);
     }
     ran
 }

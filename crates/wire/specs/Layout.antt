@@ -14,7 +14,7 @@ use Rattle.wire.specs.declared.Body.{Body}
 use Rattle.wire.specs.declared.Body.the-variants as B
 use Rattle.wire.specs.declared.Rest.{Rest}
 use Rattle.wire.specs.declared.Rest.the-variants as Q
-use Rattle.wire.specs.Bytes.{Place, Entry, _for_, _≔_, fieldAt, bytesOf}
+use Rattle.bytes.specs.Bytes.{Place, Entry, _for_, _≔_, fieldAt, bytesOf}
 
 -- ---- the header (13.3): each field's first byte and width
 
@@ -223,34 +223,3 @@ messageEntries h b = headerEntries h (row (typeOf b) .control) ++ bodyEntries bo
 
 unfoldable pub messageBytes : Header → Body → List ℕ
 messageBytes h b = bytesOf (messageEntries h b)
-
--- ---- what is not read: messageTypeSpecific, control, PDelayReq's reserved bytes, and all that lies behind a body
-
-abbrev pub reservedIn : Kind → List Place
-reservedIn (K.Table M.Sync) = []
-reservedIn (K.Table M.DelayReq) = []
-reservedIn (K.Table M.PDelayReq) = reservedBytes ∷ []
-reservedIn (K.Table M.PDelayResp) = []
-reservedIn (K.Table M.FollowUp) = []
-reservedIn (K.Table M.DelayResp) = []
-reservedIn (K.Table M.PDelayRespFollowUp) = []
-reservedIn K.Host = []
-reservedIn K.Reserved = []
-
-unfoldable pub unread : Kind → List Place
-unread k = messageTypeSpecific ∷ controlField ∷ reservedIn k
-
--- how many bytes are read at most: to the end of the body, and of a message that has none here to the end of the header
-abbrev pub readTo : Kind → ℕ
-readTo (K.Table t) = row t .length
-readTo K.Host = body
-readTo K.Reserved = body
-
--- byte i lies in one of the places
-abbrev pub lies : List Place → ℕ → Bool
-lies [] i = false
-lies (p ∷ ps) i = (leb (p .at) i && ltb i (p .at + p .width)) || lies ps i
-
--- byte i of a message of this kind is not read: it lies in such a place, or behind all that is read
-unfoldable pub unreadAt : Kind → ℕ → Bool
-unreadAt k i = leb (readTo k) i || lies (unread k) i

@@ -17,9 +17,9 @@ use Rattle.wire.specs.declared.Body.{Body}
 use Rattle.wire.specs.declared.Body.the-variants as B
 use Rattle.wire.specs.declared.Rest.{Rest}
 use Rattle.wire.specs.declared.Rest.the-variants as Q
-use Rattle.wire.specs.Bytes.{puts, bytesOf, sizeOf, tiles, Bytes, number}
+use Rattle.bytes.specs.Bytes.{puts, bytesOf, sizeOf, tiles, Bytes, number}
 use Rattle.wire.specs.Layout.{headerEntries, timestampEntries, identityEntries, restEntries, restIn, bodyEntries, row, named, kindOf, typeOf, bodyOf, timestampOf, timestampAt, body, messageEntries, messageBytes, headerOf, identityAt}
-use Rattle.wire.specs.BytesLaws.{apart, written, puts-append, length-bytesOf, bytesOf-append, number-lt}
+use Rattle.bytes.specs.BytesLaws.{apart, written, puts-append, length-bytesOf, bytesOf-append, number-lt}
 
 -- ---- the header
 

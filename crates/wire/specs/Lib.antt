@@ -1,9 +1,3 @@
--- Messages as bytes, and their reading. To be believed: `Bytes`, `Layout`, `Reading`, `Numbers`. What follows from them: the laws.
-pub mod Bytes
+-- Messages, and where each of their fields stands. To be believed: `Layout`. What follows from it: the laws.
 pub mod Layout
-pub mod Reading
-pub mod Numbers
-pub mod BytesLaws
 pub mod LayoutLaws
-pub mod ReadingLaws
-pub mod UnreadLaws

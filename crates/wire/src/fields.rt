@@ -1,73 +1,19 @@
-// A field of so many bytes from a place on, read big-endian: one loop for every width.
+// Timestamps and port identities, each a field of ten bytes from a place on: read and written.
 ghost use mathlib.Core.Path.{_≡_};
-ghost use Prim.Native.Nat.{_+_, _^_, _≤_, _<_};
+ghost use Prim.Native.Nat.{_+_, _≤_};
 ghost use lib.ListN.{length};
-ghost use Rattle.wire.specs.Bytes.{number};
-ghost use Rattle.wire.specs.Layout.{timestampAt, identityAt};
+ghost use Rattle.bytes.specs.Bytes.{puts};
+ghost use Rattle.wire.specs.Layout.{timestampAt, identityAt, timestampEntries, identityEntries};
 use crate::Identity;
 use time::WireTimestamp;
-
-fn wide(x: u8) -> u64
-    ensures { λ r. ⌜ (r ≡ x) × (r < 256) ⌝ }
-{
-    x as u64
-}
-
-pub(crate) fn size(x: u16) -> usize
-    ensures { λ r. ⌜ r ≡ x ⌝ }
-{
-    x as usize
-}
-
-fn get(s: &[u8], at: usize, width: usize) -> u64
-    requires { ⌜ (at + width ≤ length (now s)) × (width ≤ 8) ⌝ }
-    ensures { λ r. ⌜ (r ≡ number at width (now (s .entry))) × (r < 256 ^ width) ⌝ }
-{
-    let mut r: u64 = 0;
-    let mut i: usize = 0;
-    while i < width {
-        let b = wide(s[at + i]);
-        r = r * 256 + b;
-        i += 1;
-    }
-    r
-}
-
-pub fn get_u8(s: &[u8], at: usize) -> u8
-    requires { ⌜ at + 1 ≤ length (now s) ⌝ }
-    ensures { λ r. ⌜ r ≡ number at 1 (now (s .entry)) ⌝ }
-{
-    get(s, at, 1) as u8
-}
-
-pub fn get_u16(s: &[u8], at: usize) -> u16
-    requires { ⌜ at + 2 ≤ length (now s) ⌝ }
-    ensures { λ r. ⌜ r ≡ number at 2 (now (s .entry)) ⌝ }
-{
-    get(s, at, 2) as u16
-}
-
-fn get_u32(s: &[u8], at: usize) -> u32
-    requires { ⌜ at + 4 ≤ length (now s) ⌝ }
-    ensures { λ r. ⌜ r ≡ number at 4 (now (s .entry)) ⌝ }
-{
-    get(s, at, 4) as u32
-}
-
-pub fn get_u64(s: &[u8], at: usize) -> u64
-    requires { ⌜ at + 8 ≤ length (now s) ⌝ }
-    ensures { λ r. ⌜ r ≡ number at 8 (now (s .entry)) ⌝ }
-{
-    get(s, at, 8)
-}
 
 pub fn get_timestamp(s: &[u8], at: usize) -> WireTimestamp
     requires { ⌜ at + 10 ≤ length (now s) ⌝ }
     ensures { λ r. ⌜ r ≡ timestampAt at (now (s .entry)) ⌝ }
 {
     WireTimestamp {
-        seconds: get(s, at, 6),
-        nanos: get_u32(s, at + 6),
+        seconds: bytes::get(s, at, 6),
+        nanos: bytes::get_u32(s, at + 6),
     }
 }
 
@@ -76,7 +22,23 @@ pub fn get_identity(s: &[u8], at: usize) -> Identity
     ensures { λ r. ⌜ r ≡ identityAt at (now (s .entry)) ⌝ }
 {
     Identity {
-        clock: get_u64(s, at),
-        port: get_u16(s, at + 8),
+        clock: bytes::get_u64(s, at),
+        port: bytes::get_u16(s, at + 8),
     }
+}
+
+pub fn put_timestamp(buf: &mut [u8], at: usize, w: WireTimestamp)
+    requires { ⌜ at + 10 ≤ length (now buf) ⌝ }
+    ensures { λ _. ⌜ now (buf .exit) ≡ puts (timestampEntries at w) (now (buf .entry)) ⌝ }
+{
+    bytes::put(buf, at, 6, w.seconds);
+    bytes::put(buf, at + 6, 4, w.nanos as u64);
+}
+
+pub fn put_identity(buf: &mut [u8], at: usize, who: Identity)
+    requires { ⌜ at + 10 ≤ length (now buf) ⌝ }
+    ensures { λ _. ⌜ now (buf .exit) ≡ puts (identityEntries at who) (now (buf .entry)) ⌝ }
+{
+    bytes::put(buf, at, 8, who.clock);
+    bytes::put_u16(buf, at + 8, who.port);
 }

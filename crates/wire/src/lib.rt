@@ -1,14 +1,9 @@
-// PTP messages on the wire (document 01, 'Wire form'; IEEE 1588-2019, clause 13), as values and read from
-// any bytes. What a byte means stands in specs/Layout. Crate writing writes them.
-ghost use mathlib.Core.Path.{_≡_};
-ghost use Rattle.wire.specs.Reading.{readOf};
+// PTP messages (document 01, 'Wire form'; IEEE 1588-2019, clause 13) as values, and the table of their types.
+// What each byte of one means stands in specs/Layout. Crate reading reads them, crate writing writes them.
 
-mod bodies;
 pub mod fields;
-mod headers;
 mod types;
 
-use time::Time;
 use time::WireTimestamp;
 
 // A port identity: the clock's eight bytes as a number, and the port's number.
@@ -85,47 +80,4 @@ pub enum Rest {
     Nothing,
     Reserved,
     Requester(Identity),
-}
-
-// What bytes are: a message, with the time that its timestamp means; a message that is the host's; or
-// what document 01's table refuses, by row 4 or by row 5.
-pub enum Reading {
-    Message {
-        header: Header,
-        body: Body,
-        time: Time,
-    },
-    Host {
-        header: Header,
-    },
-    Version,
-    Malformed,
-}
-
-// Reads the message that s begins with.
-pub fn read(s: &[u8]) -> Reading
-    ensures { λ r. ⌜ r ≡ readOf (now (s .entry)) ⌝ }
-{
-    let n = s.len();
-    if n < 2 {
-        return Reading::Version;
-    }
-    let second = fields::get_u8(s, 1);
-    if second % 16 != 2 {
-        return Reading::Version;
-    }
-    if n < 34 {
-        return Reading::Malformed;
-    }
-    let header = headers::header_at(s);
-    let stated = fields::size(header.length);
-    if (stated < 34) | (n < stated) {
-        return Reading::Malformed;
-    }
-    let kind = Kind::of(header.kind);
-    match kind {
-        Kind::Table(t) => bodies::message_at(s, t, header),
-        Kind::Host => Reading::Host { header },
-        Kind::Reserved => Reading::Malformed,
-    }
 }

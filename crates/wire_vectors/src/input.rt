@@ -7,36 +7,18 @@
 //     f HEADER
 //     k NUMBER
 //     l CORRECTION FRACTION
-ghost use Prim.Native.Nat.{_+_, _≤_, _<_};
+ghost use Prim.Native.Nat.{_+_, _≤_};
 use sent::Sender;
 use time::WireTimestamp;
 use wire::Body;
 use wire::Header;
 use wire::Identity;
 
-// The value of a hexadecimal digit in lower case, or 0.
-fn digit(x: u8) -> u64
-    ensures { λ r. ⌜ r < 16 ⌝ }
-{
-    match x {
-        48..=57 => (x - 48) as u64,
-        97..=102 => (x - 87) as u64,
-        _ => 0,
-    }
-}
-
 // So many digits from a place of a line.
 fn number(line: &[u8; 262], at: usize, digits: usize) -> u64
     requires { ⌜ at + digits ≤ 262 ⌝ }
 {
-    let mut value: u64 = 0;
-    let mut i = 0;
-    while i < digits {
-        let d = digit(line[at + i]);
-        value = value % 0x1000_0000_0000_0000 * 16 + d;
-        i += 1;
-    }
-    value
+    questions::number(line, at, digits)
 }
 
 pub(crate) fn byte(line: &[u8; 262], at: usize) -> u8
@@ -118,29 +100,5 @@ pub(crate) fn body(line: &[u8; 262]) -> Body {
         seconds: word(line, 80),
         nanos: (number(line, 97, 8) % 0x1_0000_0000) as u32,
     };
-    body_of(kind, stamp, identity(line, 106))
-}
-
-// The body of a message type by its number, for which crate wire is not asked; Sync's by any other.
-fn body_of(kind: u8, stamp: WireTimestamp, requester: Identity) -> Body {
-    match kind {
-        1 => Body::DelayReq { origin: stamp },
-        2 => Body::PDelayReq { origin: stamp },
-        3 => Body::PDelayResp {
-            request_receive: stamp,
-            requester,
-        },
-        8 => Body::FollowUp {
-            precise_origin: stamp,
-        },
-        9 => Body::DelayResp {
-            receive: stamp,
-            requester,
-        },
-        10 => Body::PDelayRespFollowUp {
-            response_origin: stamp,
-            requester,
-        },
-        _ => Body::Sync { origin: stamp },
-    }
+    questions::body_of(kind, stamp, identity(line, 106))
 }

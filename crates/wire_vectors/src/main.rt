@@ -17,7 +17,7 @@ use wire::Kind;
 fn ask_read(line: &[u8; 262]) {
     let n = input::room(line, 2);
     let message = input::message(line);
-    tell::reading(wire::read(&message[..n]));
+    tell::reading(reading::read(&message[..n]));
 }
 
 // w: a header and a body written to a buffer of so many bytes, each of which holds the fill before.

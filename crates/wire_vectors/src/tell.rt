@@ -2,6 +2,7 @@
 // it; the two words of a time stand side by side, and where there is no requester or no byte, a dash.
 ghost use Prim.Native.Nat.{_≤_};
 use libc::STDOUT_FILENO;
+use reading::Reading;
 use sent::CorrectionAnswer;
 use time::Time;
 use wire::Body;
@@ -9,7 +10,6 @@ use wire::Header;
 use wire::Identity;
 use wire::Kind;
 use wire::MessageType;
-use wire::Reading;
 use writing::Written;
 
 pub(crate) fn number(n: u64) {

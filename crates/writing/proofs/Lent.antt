@@ -8,7 +8,7 @@ use lib.Seq.{take-at, drop-at, drop-drop}
 use borrow.Rule.Slice.PartMut.{putMid, midOf}
 use Rattle.wire.specs.declared.Header.{Header}
 use Rattle.wire.specs.declared.Body.{Body}
-use Rattle.wire.specs.Bytes.{bytesOf, puts, sizeOf}
+use Rattle.bytes.specs.Bytes.{bytesOf, puts, sizeOf}
 use Rattle.wire.specs.Layout.{row, typeOf, headerEntries, bodyEntries, messageBytes}
 use Rattle.wire.specs.LayoutLaws.{length-header, body-size, body-written, head-then-body}
 use Rattle.writing.specs.LentLaws.{lent-part, put-part}

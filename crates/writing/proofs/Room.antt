@@ -7,7 +7,7 @@ use lib.Dec.{ltb}
 use borrow.Author.Tests.{ltb-true}
 use Rattle.wire.specs.declared.Header.{Header}
 use Rattle.wire.specs.declared.Body.{Body}
-use Rattle.wire.specs.Bytes.{Entry, roomy}
+use Rattle.bytes.specs.Bytes.{Entry, roomy}
 use Rattle.wire.specs.Layout.{row, typeOf, body, headerEntries, bodyEntries, messageEntries, timestampOf}
 use Rattle.writing.specs.Writing.{together, fitsOf, isTime}
 use Rattle.time.specs.Units.{timeOfWire}

@@ -10,11 +10,11 @@ use Rattle.wire.specs.declared.Identity.{Identity}
 use Rattle.wire.specs.declared.Header.{Header}
 use Rattle.wire.specs.declared.Body.{Body}
 use Rattle.wire.specs.declared.Body.the-variants as B
-use Rattle.wire.specs.declared.Reading.the-variants as G
+use Rattle.reading.specs.declared.Reading.the-variants as G
 use Rattle.writing.specs.declared.Written.the-variants as W
-use Rattle.wire.specs.Bytes.{number, spell, bytesOf, roomy}
+use Rattle.bytes.specs.Bytes.{number, spell, bytesOf, roomy}
 use Rattle.wire.specs.Layout.{headerEntries, headerOf, identityEntries, identityAt, timestampEntries, timestampAt, bodyEntries, bodyOf, kindOf, messageEntries, messageBytes}
-use Rattle.wire.specs.Reading.{row4, row5, messageOf, readOf}
+use Rattle.reading.specs.Reading.{row4, row5, messageOf, readOf}
 use Rattle.writing.specs.Writing.{together, fitsOf, writeOf}
 
 -- ---- the parts

@@ -21,17 +21,18 @@ use Rattle.wire.specs.declared.Identity.{Identity}
 use Rattle.wire.specs.declared.Header.{Header}
 use Rattle.wire.specs.declared.Body.{Body}
 use Rattle.wire.specs.declared.Body.the-variants as B
-use Rattle.wire.specs.declared.Reading.the-variants as G
+use Rattle.reading.specs.declared.Reading.the-variants as G
 use Rattle.writing.specs.declared.Written.the-variants as W
-use Rattle.wire.specs.Bytes.{Entry, number, spell, bytesOf, sizeOf, tiles, fieldAt, Bytes}
-use Rattle.wire.specs.Layout.{headerEntries, headerOf, timestampEntries, timestampAt, identityEntries, identityAt, bodyEntries, bodyOf, body, row, kindOf, typeOf, timestampOf, messageLength, unread, unreadAt, messageEntries, messageBytes}
-use Rattle.wire.specs.Reading.{row4, row5, readOf, shortFor, reserved, kindIn}
+use Rattle.bytes.specs.Bytes.{Entry, number, spell, bytesOf, sizeOf, tiles, fieldAt, Bytes}
+use Rattle.wire.specs.Layout.{headerEntries, headerOf, timestampEntries, timestampAt, identityEntries, identityAt, bodyEntries, bodyOf, body, row, kindOf, typeOf, timestampOf, messageLength, messageEntries, messageBytes}
+use Rattle.reading.specs.Unread.{unread, unreadAt}
+use Rattle.reading.specs.Reading.{row4, row5, readOf, shortFor, reserved, kindIn}
 use Rattle.writing.specs.Writing.{fitsOf, writeOf, leftOf, isTime}
-use Rattle.wire.specs.BytesLaws.{both, Fits, Reads, reads-parts, reads-back, number-lt, length-bytesOf, length-spell, spell-number}
+use Rattle.bytes.specs.BytesLaws.{both, Fits, Reads, reads-parts, reads-back, number-lt, length-bytesOf, length-spell, spell-number}
 use Rattle.wire.specs.LayoutLaws.{message-tiles, length-message, number-kind, row-bounds, body-size}
-use Rattle.wire.specs.ReadingLaws.{row4-passed, row5-passed, IsMessage, message-when, message-is}
+use Rattle.reading.specs.ReadingLaws.{row4-passed, row5-passed, IsMessage, message-when, message-is}
 use Rattle.writing.specs.WritingLaws.{Fitting, fits-is, fits-when, write-when, write-is, left-when, time-given}
-use Rattle.wire.specs.UnreadLaws.{read-at-is}
+use Rattle.reading.specs.UnreadLaws.{read-at-is}
 
 -- ---- tables that stand in l read back
 

@@ -11,7 +11,7 @@ use Rattle.wire.specs.declared.Header.{Header}
 use Rattle.wire.specs.declared.Body.{Body}
 use Rattle.writing.specs.declared.Written.{Written}
 use Rattle.writing.specs.declared.Written.the-variants as W
-use Rattle.wire.specs.Bytes.{roomy}
+use Rattle.bytes.specs.Bytes.{roomy}
 use Rattle.wire.specs.Layout.{row, typeOf, messageEntries, messageBytes, timestampOf}
 
 -- header and body go together: version 2, the body's type and its length

@@ -13,11 +13,11 @@ use Rattle.time.specs.declared.ReadAnswer.the-variants as R
 use Rattle.time.specs.Numbers.{answered, refusal}
 use Rattle.writing.specs.declared.Written.{Written}
 use Rattle.writing.specs.declared.Written.the-variants as W
-use Rattle.wire.specs.Bytes.{roomy}
+use Rattle.bytes.specs.Bytes.{roomy}
 use Rattle.wire.specs.Layout.{row, typeOf, messageEntries, messageBytes, timestampOf}
 use Rattle.writing.specs.Writing.{together, fitsOf, writeOf, leftBy, leftOf, isTime}
 use Rattle.writing.specs.Numbers.{told}
-use Rattle.wire.specs.BytesLaws.{both, apart, Fits, roomy-fits, fits-roomy}
+use Rattle.bytes.specs.BytesLaws.{both, apart, Fits, roomy-fits, fits-roomy}
 use native.Mathlib.Decide.{decLt}
 use Rattle.time.specs.Units.{timeOfWire, timeWords, wire}
 use Rattle.time.specs.WireLaws.{read-in, read-out}

@@ -2,11 +2,11 @@
 ghost use mathlib.Core.Path.{_≡_};
 ghost use Prim.Native.Nat.{_≤_};
 ghost use lib.ListN.{length};
-ghost use Rattle.wire.specs.Bytes.{puts, sizeOf};
+ghost use Rattle.bytes.specs.Bytes.{puts, sizeOf};
 ghost use Rattle.wire.specs.Layout.{bodyEntries};
-use crate::fields;
 use wire::Body;
 use wire::Rest;
+use wire::fields;
 
 // The body into the part of the packet from byte 34 on.
 pub(crate) fn write_body(part: &mut [u8], b: Body)
@@ -17,7 +17,7 @@ pub(crate) fn write_body(part: &mut [u8], b: Body)
     let rest = b.rest();
     match rest {
         Rest::Nothing => {}
-        Rest::Reserved => fields::put(part, 10, 10, 0),
+        Rest::Reserved => bytes::put(part, 10, 10, 0),
         Rest::Requester(who) => fields::put_identity(part, 10, who),
     }
 }

@@ -4,7 +4,7 @@ ghost use Prim.Native.Nat.{_+_};
 ghost use mathlib.Core.Bool.{_&&_};
 ghost use mathlib.Core.List.{_++_};
 ghost use Rattle.time.specs.Units.{timeOfWire};
-ghost use Rattle.wire.specs.Bytes.{roomy};
+ghost use Rattle.bytes.specs.Bytes.{roomy};
 ghost use Rattle.wire.specs.Layout.{body, timestampEntries, identityEntries, bodyEntries, timestampOf};
 ghost use Rattle.writing.specs.Writing.{isTime, fitsOf};
 use time::ReadAnswer;

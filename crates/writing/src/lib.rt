@@ -8,7 +8,6 @@ ghost use Rattle.wire.specs.Layout.{row, typeOf, messageBytes};
 ghost use Rattle.writing.specs.Writing.{fitsOf, writeOf, leftOf};
 
 mod bodies;
-mod fields;
 mod fits;
 mod headers;
 
@@ -39,7 +38,7 @@ pub fn write(packet: &mut [u8], header: Header, body: Body) -> Written
 {
     if fits::fits(header, body) {
         let t = body.message_type();
-        let n = fields::wide(t.length());
+        let n = bytes::size(t.length());
         if packet.len() < n {
             return Written::Short;
         }

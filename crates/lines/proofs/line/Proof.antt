@@ -6,8 +6,8 @@ use Rattle.text.specs.PageLaws.{wrote-then, wrote-as, wrote-same}
 use Rattle.text.specs.Digits.{decimalOf}
 use Rattle.lines.specs.declared.Style.{Style}
 use Rattle.lines.specs.declared.Shown.{Shown}
-use Rattle.lines.specs.Lines.{following, marked, maybeDuration, shownOf, traceTexts, lineWith, lineFor}
-use Rattle.lines.proofs.Texts.{marked-append}
+use Rattle.lines.specs.Lines.{following, joinedBy, maybeDuration, shownOf, traceTexts, lineWith, lineFor}
+use Rattle.lines.proofs.Texts.{joined-append}
 use Rattle.lines.proofs.line.Statement.{statement}
 use Rattle.lines.proofs.line.Tie as tie
 
@@ -37,7 +37,7 @@ unfolding lineWith
 returns c =
     let a = c .before .before .before .before .before .before .before .before .before .before .before .before .before .args in
     wrote-as (ap (λ (s : Style). lineFor s (a .number) (a .answer) (a .sent .now)) (sym (c .before .before .before .before .enum-told .given .1)))
-    (wrote-then (wrote-as (ap (λ (s : Shown). marked 32 (decimalOf (a .number)) (decimalOf (numberOf (a .answer .outcome)) ∷ (s .letter ∷ []) ∷ maybeDuration (s .value) ∷ [])) (c .before .before .before .before .before .before .before .before .before .before .shown .ensures)) (c .before .before .before .before .before .before .before .before .heading .ensures)) (c .before .before .put .ensures))
+    (wrote-then (wrote-as (ap (λ (s : Shown). joinedBy 32 (decimalOf (a .number)) (decimalOf (numberOf (a .answer .outcome)) ∷ (s .letter ∷ []) ∷ maybeDuration (s .value) ∷ [])) (c .before .before .before .before .before .before .before .before .before .before .shown .ensures)) (c .before .before .before .before .before .before .before .before .heading .ensures)) (c .before .before .put .ensures))
 
 same-length : tie.Need-same-length
 same-length c = wrote-same (returns c)
@@ -50,9 +50,9 @@ returns-2 c =
     wrote-as (ap (λ (s : Style). lineFor s (a .number) (a .answer) (a .sent .now)) (sym (c .before .before .before .before .before .before .before .before .enum-told2 .given .1)))
     (wrote-then
     (wrote-as
-    (marked-append 32 (decimalOf (a .number)) (decimalOf (numberOf (a .answer .outcome)) ∷ (m .letter ∷ []) ∷ maybeDuration (m .value) ∷ [])
+    (joined-append 32 (decimalOf (a .number)) (decimalOf (numberOf (a .answer .outcome)) ∷ (m .letter ∷ []) ∷ maybeDuration (m .value) ∷ [])
     (traceTexts m (a .sent .now) (firstActions (a .answer .count) (a .answer .actions)) (a .answer .reset)))
-    (wrote-then (wrote-as (ap (λ (s : Shown). marked 32 (decimalOf (a .number)) (decimalOf (numberOf (a .answer .outcome)) ∷ (s .letter ∷ []) ∷ maybeDuration (s .value) ∷ [])) (c .before .before .before .before .before .before .before .before .before .before .before .before .before .before .shown .ensures)) (c .before .before .before .before .before .before .before .before .before .before .before .before .heading .ensures))
+    (wrote-then (wrote-as (ap (λ (s : Shown). joinedBy 32 (decimalOf (a .number)) (decimalOf (numberOf (a .answer .outcome)) ∷ (s .letter ∷ []) ∷ maybeDuration (s .value) ∷ [])) (c .before .before .before .before .before .before .before .before .before .before .before .before .before .before .shown .ensures)) (c .before .before .before .before .before .before .before .before .before .before .before .before .heading .ensures))
     (wrote-as (ap (λ (s : Shown). following 32 (traceTexts s (a .sent .now) (firstActions (a .answer .count) (a .answer .actions)) (a .answer .reset))) (c .before .before .before .before .before .before .before .before .before .before .before .before .before .before .shown .ensures)) (c .before .before .before .before .before .before .details .ensures))))
     (c .before .before .put2 .ensures))
 

@@ -1,103 +1,81 @@
-use native.Mathlib.Omega.{arith}
-use mathlib.Core.Path.{refl}
-use Rattle.playing.specs.Between.{Next}
-use Rattle.playing.specs.BetweenLaws.{read-within, room-left}
+use mathlib.Core.Path.{sym, _∙_, subst}
+use lib.ListN.{length}
 use borrow.Author.Needs.{needs}
+use Rattle.flow.specs.declared.Then.{Then}
+use Rattle.playing.specs.BetweenLaws.{Within, after-within, stays, reads-more}
 use Rattle.playing.proofs.turn.Statement.{statement}
 use Rattle.playing.proofs.turn.Tie as tie
 use Rattle.playing.proofs.turn.Reads as reads
 use Rattle.playing.proofs.turn.Lts as lts
+use Rattle.flow.proofs.Flow.after.Reads as after-reads
 use Rattle.playing.proofs.fill.Reads as fill-reads
 use Rattle.playing.proofs.flush.Reads as flush-reads
 use Rattle.replaying.proofs.turn.Reads as turn-reads
 
--- src/lib.rt:91:45
 sub-turn : tie.Need-sub-turn
 sub-turn c = search needs
 
--- src/lib.rt:91:45
 part-turn-start : tie.Need-part-turn-start
 part-turn-start c = search needs
 
--- src/lib.rt:91:45
 part-turn-end : tie.Need-part-turn-end
 part-turn-end c = search needs
 
--- src/lib.rt:91:9
 turn-requires : tie.Need-turn-requires
 turn-requires c κs = search needs
 
--- src/lib.rt:94:14
-add-at : tie.Need-add-at
-add-at c = omega (arith, read-within (c .before .before .before .before .before .before .before .before .before .before .before .args .f) (c .before .before .before .before .before .before .before .before .before .before .before .args .w .now) _ _ (c .before .before .before .before .before .before .before .before .before .before .before .pre .0) (c .before .before .before .before .turn .ensures .1), c .before .before .before .before .before .before .before .before .before .before .before .pre .0 .have, c .before .before .before .before .before .before .before .before .before .before .before .good .1 .1 .1 .0)
-
--- src/lib.rt:95:9
 flush-requires : tie.Need-flush-requires
 flush-requires c κs = search needs
 
--- src/lib.rt:97:9
+after-requires : tie.Need-after-requires
+after-requires c κs = search needs
+
+enum-known-g : tie.Need-enum-known-g
+enum-known-g c = search needs
+
+enum-known-g-2 : tie.Need-enum-known-g-2
+enum-known-g-2 c = search needs
+
+fill-requires : tie.Need-fill-requires
+fill-requires c κs =
+    let within : Within (length (c .before .before .before .before .before .before .before .before .before .before .before .before .before .before .before .before .args .w .now)) (Then.Reads _) = subst (Within (length (c .before .before .before .before .before .before .before .before .before .before .before .before .before .before .before .before .args .w .now))) (sym (c .before .before .before .before .after .ensures) ∙ c .before .before .g2 .given .1) (after-within (c .before .before .before .before .before .before .before .before .before .before .before .before .before .before .before .before .args .f) (c .before .before .before .before .before .before .before .before .before .before .before .before .before .before .before .before .args .w .now) _ (c .before .before .before .before .before .before .before .before .before .turn .result) (c .before .before .before .before .before .before .before .before .before .before .before .before .before .before .before .before .pre .0) (c .before .before .before .before .before .before .before .before .before .turn .ensures .1) (c .before .before .before .before .before .flush .result)) in
+    (within .0, within .1 (c .before .before .before .before .before .before .before .before .before .before .before .before .before .before .before .before .pre .1))
+
 same-length : tie.Need-same-length
 same-length c = search needs
 
--- src/lib.rt:97:9
 same-length-2 : tie.Need-same-length-2
 same-length-2 c = search needs
 
--- src/lib.rt:97:9
 returns : tie.Need-returns
-returns c = (record { start = c .before .before .before .before .before .before .before .before .before .before .before .before .before .before .before .pre .0 .start; have = c .before .before .before .before .before .before .before .before .before .before .before .before .before .before .before .pre .0 .have }, record { answer = c .before .before .before .before .before .before .before .before .turn .result; turned = c .before .before .before .before .before .before .before .before .turn .ensures .0; next = Next.ends refl })
+returns c =
+    let e = sym (c .before .before .before .after .ensures) ∙ c .before .g .given .1 in (
+      subst (Within (length (c .before .before .before .before .before .before .before .before .before .before .before .before .before .before .before .args .w .now))) e (after-within (c .before .before .before .before .before .before .before .before .before .before .before .before .before .before .before .args .f) (c .before .before .before .before .before .before .before .before .before .before .before .before .before .before .before .args .w .now) _ (c .before .before .before .before .before .before .before .before .turn .result) (c .before .before .before .before .before .before .before .before .before .before .before .before .before .before .before .pre .0) (c .before .before .before .before .before .before .before .before .turn .ensures .1) (c .before .before .before .before .flush .result)),
+      record {
+        answer = c .before .before .before .before .before .before .before .before .turn .result;
+        written = c .before .before .before .before .flush .result;
+        turned = c .before .before .before .before .before .before .before .before .turn .ensures .0;
+        next = stays _ _ (c .before .before .before .before .before .before .before .before .before .before .before .before .before .before .before .args .w .now) e;
+      },
+    )
 
--- src/lib.rt:103:15
-enum-told : tie.Need-enum-told
-enum-told c = search needs
-
--- src/lib.rt:108:13
-enum-told-2 : tie.Need-enum-told-2
-enum-told-2 c = search needs
-
--- src/lib.rt:105:23
-fill-requires : tie.Need-fill-requires
-fill-requires c κs = (record { start = read-within (c .before .before .before .before .before .before .before .before .before .before .before .before .before .before .before .before .before .args .f) (c .before .before .before .before .before .before .before .before .before .before .before .before .before .before .before .before .before .args .w .now) _ _ (c .before .before .before .before .before .before .before .before .before .before .before .before .before .before .before .before .before .pre .0) (c .before .before .before .before .before .before .before .before .before .before .turn .ensures .1); have = c .before .before .before .before .before .before .before .before .before .before .before .before .before .before .before .before .before .pre .0 .have }, room-left (c .before .before .before .before .before .before .before .before .before .before .before .before .before .before .before .before .before .args .f) (c .before .before .before .before .before .before .before .before .before .before .before .before .before .before .before .before .before .args .w .now) _ _ (c .before .before .before .before .before .before .before .before .before .before .before .before .before .before .before .before .before .pre .0) (c .before .before .before .before .before .before .before .before .before .before .turn .ensures .1) (c .before .before .before .before .before .before .before .before .before .before .before .before .before .before .before .before .before .pre .1) (c .before .enum-told2 .given .1))
-
--- src/lib.rt:115:43
-enum-told-3 : tie.Need-enum-told-3
-enum-told-3 c = search needs
-
--- src/lib.rt:84:1
 same-length-3 : tie.Need-same-length-3
 same-length-3 c = search needs
 
--- src/lib.rt:84:1
 same-length-4 : tie.Need-same-length-4
 same-length-4 c = search needs
 
--- src/lib.rt:84:1
 returns-2 : tie.Need-returns-2
-returns-2 c = (record { start = read-within (c .before .before .before .before .before .before .before .before .before .before .before .before .before .before .before .before .args .f) (c .before .before .before .before .before .before .before .before .before .before .before .before .before .before .before .before .args .w .now) _ _ (c .before .before .before .before .before .before .before .before .before .before .before .before .before .before .before .before .pre .0) (c .before .before .before .before .before .before .before .before .before .turn .ensures .1); have = c .before .before .before .before .before .before .before .before .before .before .before .before .before .before .before .before .pre .0 .have }, record { answer = c .before .before .before .before .before .before .before .before .before .turn .result; turned = c .before .before .before .before .before .before .before .before .before .turn .ensures .0; next = Next.again (c .enum-told .given .1) refl refl })
-
--- src/lib.rt:84:1
-same-length-5 : tie.Need-same-length-5
-same-length-5 c = search needs
-
--- src/lib.rt:84:1
-same-length-6 : tie.Need-same-length-6
-same-length-6 c = search needs
-
--- src/lib.rt:84:1
-returns-3 : tie.Need-returns-3
-returns-3 c = (search needs, record { answer = c .before .before .before .before .before .before .before .before .before .before .before .before .before .turn .result; turned = c .before .before .before .before .before .before .before .before .before .before .before .before .before .turn .ensures .0; next = Next.more (c .before .before .before .before .enum-told2 .given .1) (c .before .before .fill .ensures .1) })
-
--- src/lib.rt:84:1
-same-length-7 : tie.Need-same-length-7
-same-length-7 c = search needs
-
--- src/lib.rt:84:1
-same-length-8 : tie.Need-same-length-8
-same-length-8 c = search needs
-
--- src/lib.rt:84:1
-returns-4 : tie.Need-returns-4
-returns-4 c = (record { start = c .before .before .before .before .before .before .before .before .before .before .before .before .before .before .before .before .before .pre .0 .start; have = c .before .before .before .before .before .before .before .before .before .before .before .before .before .before .before .before .before .pre .0 .have }, record { answer = c .before .before .before .before .before .before .before .before .before .before .turn .result; turned = c .before .before .before .before .before .before .before .before .before .before .turn .ensures .0; next = Next.ends refl })
+returns-2 c =
+    let e = sym (c .before .before .before .before .before .before .before .after .ensures) ∙ c .before .before .before .before .before .g2 .given .1 in (
+      c .before .before .fill .ensures .0,
+      record {
+        answer = c .before .before .before .before .before .before .before .before .before .before .before .before .turn .result;
+        written = c .before .before .before .before .before .before .before .before .flush .result;
+        turned = c .before .before .before .before .before .before .before .before .before .before .before .before .turn .ensures .0;
+        next = reads-more _ _ (c .before .before .before .before .before .before .before .before .before .before .before .before .before .before .before .before .before .before .before .args .w .now) _ _ e (c .before .before .fill .ensures .1);
+      },
+    )
 
 pub turn-spec : {M : Type 1} → statement M
 turn-spec =
@@ -107,21 +85,14 @@ turn-spec =
     part-turn-start
     part-turn-end
     turn-requires
-    add-at
     flush-requires
+    after-requires
+    enum-known-g
+    enum-known-g-2
+    fill-requires
     same-length
     same-length-2
     returns
-    enum-told
-    enum-told-2
-    fill-requires
-    enum-told-3
     same-length-3
     same-length-4
-    returns-2
-    same-length-5
-    same-length-6
-    returns-3
-    same-length-7
-    same-length-8
-    returns-4)
+    returns-2)

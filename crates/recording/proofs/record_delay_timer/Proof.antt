@@ -1,7 +1,7 @@
 use mathlib.Core.Path.{refl}
 use borrow.Author.Needs.{needs}
 use native.Mathlib.Omega.{arith}
-use Rattle.wire.specs.BytesLaws.{length-spell}
+use Rattle.bytes.specs.BytesLaws.{length-spell}
 use Rattle.recording.specs.RecordingLaws.{appends, appends-short, length-delay-timer, length-draw, field-then}
 use Rattle.recording.specs.Recording.{eventBytes}
 use Rattle.recording.proofs.record_delay_timer.Statement.{statement}

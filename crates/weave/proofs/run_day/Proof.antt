@@ -12,14 +12,8 @@ Inv-loop peer blocks given₀ gathered₀ day₀ i₀ given gathered day i = (le
 abbrev μ-loop : tie.MeasureT-loop
 μ-loop peer blocks given₀ gathered₀ day₀ i₀ given gathered day i = blocks - i
 
-slave-requires : tie.Need-slave-requires Inv-loop μ-loop
-slave-requires c κs = tt
-
 new-requires : tie.Need-new-requires Inv-loop μ-loop
 new-requires c κs = tt
-
-new-requires-2 : tie.Need-new-requires-2 Inv-loop μ-loop
-new-requires-2 c κs = tt
 
 loop-holds : tie.Need-loop-holds Inv-loop μ-loop
 loop-holds c = search needs
@@ -35,6 +29,9 @@ loop-less c = search needs
 
 loop-again : tie.Need-loop-again Inv-loop μ-loop
 loop-again c = search needs
+
+next-id-requires : tie.Need-next-id-requires Inv-loop μ-loop
+next-id-requires c κs = tt
 
 tell-day-requires : tie.Need-tell-day-requires Inv-loop μ-loop
 tell-day-requires c κs = tt
@@ -54,14 +51,13 @@ run-day-spec =
     (tie.spec
     Inv-loop
     μ-loop
-    slave-requires
     new-requires
-    new-requires-2
     loop-holds
     add-i
     turn-requires
     loop-less
     loop-again
+    next-id-requires
     tell-day-requires
     same-length
     same-length-2

@@ -3,7 +3,7 @@ use mathlib.Core.Path.{_∙_, ap}
 use mathlib.Core.List.{_++_}
 use lib.ListN.{drop}
 use Rattle.wire.specs.declared.MessageType.{MessageType}
-use Rattle.wire.specs.Bytes.{bytesOf}
+use Rattle.bytes.specs.Bytes.{bytesOf}
 use Rattle.writing.proofs.Lent.{lent-length, laid}
 use native.Mathlib.Omega.{arith}
 use Rattle.wire.specs.Layout.{row, typeOf, headerEntries}

@@ -20,20 +20,20 @@ message-type-requires c κs = search needs
 length-requires : tie.Need-length-requires
 length-requires c κs = search needs
 
-wide-requires : tie.Need-wide-requires
-wide-requires c κs = search needs
+size-requires : tie.Need-size-requires
+size-requires c κs = search needs
 
 returns : tie.Need-returns
 unfolding writeOf leftOf
 returns c =
-    let n = c .before .wide .ensures ∙ c .before .before .length .ensures ∙ ap (λ (t : MessageType). row t .length) (c .before .before .before .message-type .ensures) in
+    let n = c .before .size .ensures ∙ c .before .before .length .ensures ∙ ap (λ (t : MessageType). row t .length) (c .before .before .before .message-type .ensures) in
     let fits = sym (c .before .before .before .before .before .fits2 .ensures) ∙ c .before .before .before .before .if1 .taken in
-    let short = lt-ltb (length (c .before .before .before .before .before .before .before .args .packet .now)) (c .before .wide .result) (omega (arith, c .if2 .taken)) in
+    let short = lt-ltb (length (c .before .before .before .before .before .before .before .args .packet .now)) (c .before .size .result) (omega (arith, c .if2 .taken)) in
     (simp (fits, sym n, short), simp (fits, sym n, short))
 
 lay-requires : tie.Need-lay-requires
 lay-requires c κs =
-    let n = c .before .before .wide .ensures ∙ c .before .before .before .length .ensures ∙ ap (λ (t : MessageType). row t .length) (c .before .before .before .before .message-type .ensures) in
+    let n = c .before .before .size .ensures ∙ c .before .before .before .length .ensures ∙ ap (λ (t : MessageType). row t .length) (c .before .before .before .before .message-type .ensures) in
     (sym (c .before .before .before .before .before .before .fits2 .ensures) ∙ c .before .before .before .before .before .if1 .taken, omega (arith, c .before .if2 .left, n))
 
 same-length : tie.Need-same-length
@@ -42,7 +42,7 @@ same-length c = search needs
 returns-2 : tie.Need-returns-2
 unfolding writeOf leftOf
 returns-2 c =
-    let n = c .before .before .before .before .before .wide .ensures ∙ c .before .before .before .before .before .before .length .ensures ∙ ap (λ (t : MessageType). row t .length) (c .before .before .before .before .before .before .before .message-type .ensures) in
+    let n = c .before .before .before .before .before .size .ensures ∙ c .before .before .before .before .before .before .length .ensures ∙ ap (λ (t : MessageType). row t .length) (c .before .before .before .before .before .before .before .message-type .ensures) in
     let fits = sym (c .before .before .before .before .before .before .before .before .before .fits2 .ensures) ∙ c .before .before .before .before .before .before .before .before .if1 .taken in (
       simp (fits, sym n, le-ltb _ _ (c .before .before .before .before .if2 .left)),
       simp (fits, sym n, le-ltb _ _ (c .before .before .before .before .if2 .left))
@@ -62,7 +62,7 @@ write-spec =
     fits-requires
     message-type-requires
     length-requires
-    wide-requires
+    size-requires
     returns
     lay-requires
     same-length

@@ -1,5 +1,5 @@
 use Rattle.rules.specs.Step.{ruleOf}
-use Rattle.dispatch.specs.RowLaws.{heard-viewed}
+use Rattle.rows.specs.RowLaws.{heard-viewed}
 use mathlib.Core.Path.{sym, _∙_}
 use borrow.Author.Needs.{needs}
 use Rattle.dispatch.proofs.hearing.on_event.Statement.{statement}

@@ -1,6 +1,6 @@
 use borrow.Author.Needs.{needs}
 use lib.ListN.{length-append}
-use Rattle.wire.specs.BytesLaws.{length-spell}
+use Rattle.bytes.specs.BytesLaws.{length-spell}
 use Rattle.recording.specs.Recording.{contextBytes}
 use Rattle.recording.proofs.laying.context_size.Statement.{statement}
 use Rattle.recording.proofs.laying.context_size.Tie as tie

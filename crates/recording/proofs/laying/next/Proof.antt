@@ -1,7 +1,7 @@
 use mathlib.Core.Path.{sym, ap}
 use borrow.Author.Needs.{needs}
 use Rattle.text.specs.PageLaws.{wrote-as, wrote-nothing}
-use Rattle.wire.specs.BytesLaws.{length-spell}
+use Rattle.bytes.specs.BytesLaws.{length-spell}
 use Rattle.recording.specs.Recording.{nextBytes}
 use Rattle.recording.specs.RecordingLaws.{field-then}
 use Rattle.recording.proofs.laying.next.Statement.{statement}

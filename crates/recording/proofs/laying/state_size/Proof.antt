@@ -1,6 +1,6 @@
 use borrow.Author.Needs.{needs}
 use lib.ListN.{length-append}
-use Rattle.wire.specs.BytesLaws.{length-spell}
+use Rattle.bytes.specs.BytesLaws.{length-spell}
 use Rattle.recording.specs.Recording.{stateBytes}
 use Rattle.recording.proofs.laying.state_size.Statement.{statement}
 use Rattle.recording.proofs.laying.state_size.Tie as tie

@@ -1,15 +1,15 @@
 -- `woven`: none of the three runs is passed, as what is left of them is what is left of all, and each turn gives a place.
-use Prim.Native.Nat.{_+_, _≤_}
+use Prim.Native.Nat.{_+_, _≤_, _-_}
 use mathlib.Core.Path.{_≡_}
 use borrow.Author.Needs.{needs}
 use Rattle.weave.proofs.order.woven.Statement.{statement}
 use Rattle.weave.proofs.order.woven.Tie as tie
 
 abbrev Inv-loop : tie.InvT-loop
-Inv-loop syncs rest count w₀ left₀ w left = (w .sync ≤ syncs) × (w .request ≤ rest) × (w .free ≤ count) × (w .sync + w .request + w .free + left ≡ syncs + rest + count) × (w .row .count + left ≡ count)
+Inv-loop syncs rest count w₀ row₀ w row = (w .sync ≤ syncs) × (w .request ≤ rest) × (w .free ≤ count) × (w .sync + w .request + w .free ≡ syncs + rest + row .count) × (row .count ≤ count)
 
 abbrev μ-loop : tie.MeasureT-loop
-μ-loop syncs rest count w₀ left₀ w left = left
+μ-loop syncs rest count w₀ row₀ w row = count - row .count
 
 new-requires : tie.Need-new-requires Inv-loop μ-loop
 new-requires c κs = search needs
@@ -20,8 +20,8 @@ loop-holds c = search needs
 step-requires : tie.Need-step-requires Inv-loop μ-loop
 step-requires c κs = search needs
 
-sub-left : tie.Need-sub-left Inv-loop μ-loop
-sub-left c = search needs
+with-requires : tie.Need-with-requires Inv-loop μ-loop
+with-requires c κs = search needs
 
 loop-less : tie.Need-loop-less Inv-loop μ-loop
 loop-less c = search needs
@@ -41,7 +41,7 @@ woven-spec =
     new-requires
     loop-holds
     step-requires
-    sub-left
+    with-requires
     loop-less
     loop-again
     returns)

@@ -28,17 +28,14 @@ add-i c = search needs
 at-requires-2 : tie.Need-at-requires-2 Inv-loop μ-loop
 at-requires-2 c κs = tt
 
-answered-requires : tie.Need-answered-requires Inv-loop μ-loop
-answered-requires c κs = tt
-
-with-requires : tie.Need-with-requires Inv-loop μ-loop
-with-requires c κs = tt
+after-requires : tie.Need-after-requires Inv-loop μ-loop
+after-requires c κs = tt
 
 loop-less : tie.Need-loop-less Inv-loop μ-loop
 loop-less c = search needs
 
 loop-again : tie.Need-loop-again Inv-loop μ-loop
-loop-again c = (c .before .before .before .answered .kept .1 .1 .0 ∙ c .before .before .before .before .before .before .before .before .before .loop .inv .0, omega (arith, c .before .before .before .before .before .before .before .if1 .taken))
+loop-again c = (c .before .before .after .kept .1 .1 .1 .0 ∙ c .before .before .before .before .before .before .before .before .loop .inv .0, omega (arith, c .before .before .before .before .before .before .if1 .taken))
 
 same-length : tie.Need-same-length Inv-loop μ-loop
 same-length c = search needs
@@ -57,8 +54,7 @@ run-spec =
     at-requires
     add-i
     at-requires-2
-    answered-requires
-    with-requires
+    after-requires
     loop-less
     loop-again
     same-length

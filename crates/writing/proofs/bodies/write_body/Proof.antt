@@ -1,7 +1,7 @@
 use Rattle.wire.specs.declared.Rest.the-variants as Q
 use native.Mathlib.Omega.{arith}
 use mathlib.Core.Path.{sym, _∙_, refl}
-use Rattle.wire.specs.Bytes.{puts, sizeOf}
+use Rattle.bytes.specs.Bytes.{puts, sizeOf}
 use Rattle.wire.specs.Layout.{bodyEntries, timestampEntries, identityEntries}
 use Rattle.wire.specs.LayoutLaws.{rest-room}
 use borrow.Author.Needs.{needs}

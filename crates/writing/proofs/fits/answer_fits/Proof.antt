@@ -2,7 +2,7 @@ use Prim.Native.Nat.{_^_}
 use native.Mathlib.Omega.{arith}
 use borrow.Author.Needs.{needs}
 use borrow.Author.Tests.{lt-ltb}
-use Rattle.wire.specs.Bytes.{roomy}
+use Rattle.bytes.specs.Bytes.{roomy}
 use Rattle.wire.specs.Layout.{timestampEntries, identityEntries}
 use Rattle.writing.proofs.fits.answer_fits.Statement.{statement}
 use Rattle.writing.proofs.fits.answer_fits.Tie as tie

@@ -1,4 +1,4 @@
-use Rattle.wire.specs.Bytes.{roomy}
+use Rattle.bytes.specs.Bytes.{roomy}
 use Rattle.wire.specs.Layout.{timestampEntries, identityEntries, bodyEntries}
 use borrow.Author.Needs.{needs}
 use Rattle.writing.proofs.fits.body_fits.Statement.{statement}

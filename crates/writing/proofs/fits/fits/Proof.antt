@@ -5,7 +5,7 @@ use borrow.Author.Tests.{eq-eqb, ne-eqb}
 use Rattle.wire.specs.declared.MessageType.{MessageType}
 use Rattle.wire.specs.Layout.{row, typeOf, headerEntries, identityEntries}
 use Rattle.writing.specs.Writing.{fitsOf, together}
-use Rattle.wire.specs.BytesLaws.{fits-roomy}
+use Rattle.bytes.specs.BytesLaws.{fits-roomy}
 use Rattle.wire.specs.LayoutLaws.{row-bounds}
 use Rattle.writing.proofs.Room.{fits-by-tests}
 use borrow.Author.Needs.{needs}

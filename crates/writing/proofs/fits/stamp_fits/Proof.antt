@@ -4,7 +4,7 @@ use mathlib.Core.Bool.{and-false}
 use native.Mathlib.Omega.{arith}
 use borrow.Author.Needs.{needs}
 use borrow.Author.Tests.{lt-ltb}
-use Rattle.wire.specs.Bytes.{roomy}
+use Rattle.bytes.specs.Bytes.{roomy}
 use Rattle.wire.specs.Layout.{timestampEntries}
 use Rattle.writing.specs.Writing.{isTime}
 use Rattle.writing.specs.WritingLaws.{seconds-given}

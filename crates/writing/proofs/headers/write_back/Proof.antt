@@ -1,5 +1,5 @@
 use Rattle.wire.specs.Layout.{headerEntries, identityEntries}
-use Rattle.wire.specs.Bytes.{puts}
+use Rattle.bytes.specs.Bytes.{puts}
 use borrow.Author.Needs.{needs}
 use Rattle.writing.proofs.headers.write_back.Statement.{statement}
 use Rattle.writing.proofs.headers.write_back.Tie as tie

@@ -1,6 +1,6 @@
 use mathlib.Core.Path.{_∙_, ap}
 use lib.ListN.{drop}
-use Rattle.wire.specs.Bytes.{puts}
+use Rattle.bytes.specs.Bytes.{puts}
 use Rattle.wire.specs.Layout.{headerEntries}
 use Rattle.wire.specs.LayoutLaws.{header-written}
 use borrow.Author.Needs.{needs}
