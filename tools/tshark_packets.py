@@ -20,7 +20,7 @@ from collections import Counter
 from pathlib import Path
 
 sys.dont_write_bytecode = True
-import wire_vectors as asked
+import wire_rules as asked
 from tshark import ADDED, BODIES, capture, fail, frames, number, program
 
 NAMES = ["Sync", "DelayReq", "PDelayReq", "PDelayResp", "type 4", "type 5", "type 6", "type 7", "FollowUp"]
@@ -126,7 +126,7 @@ def made():
     time = (1_700_000_000 * 10**9 + 123_456_789) * 2**32 + 0x89AB_CDEF
     request, _ = distinct(1)
     draw = random.Random(1588)
-    for kind in asked.TYPES:
+    for kind in sorted(asked.TABLE):
         question, _ = asked.sent(request, kind, us, 0x4000 + kind, 0xF0 + kind, time)
         yield question, *asked.sent_values(request, kind, us, 0x4000 + kind, 0xF0 + kind, time)
         for header, body in [distinct(kind), *(distinct(kind, draw) for _ in range(DRAWN))]:
