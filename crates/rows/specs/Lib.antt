@@ -1,3 +1,3 @@
--- The rows and the ways to the handlers, as crate `rules` says them. Nothing here has to be believed: `RowLaws` shows that `step` says the same.
+-- The rows of the table as the values that the code answers. Nothing here has to be believed: `RowLaws` shows that `step` says the same.
 pub mod Rows
 pub mod RowLaws

@@ -1,4 +1,4 @@
--- Document 01, 'Numbers the port answers': the condition of each row, in the table's order. (Row 2 is `unfit` of crate `record`; row 7 is `row7` of `WorkedOut`.)
+-- Document 01, 'Numbers the port answers': the condition of each row, in the table's order. (Row 2 is `unfit` of crate `fitness`; row 7 is `row7` of `WorkedOut`.)
 use Prim.Native.Nat.{ℕ}
 use mathlib.Core.Bool.{Bool, true, false, cond, _&&_, not}
 use mathlib.Core.List.{List, [], _∷_}

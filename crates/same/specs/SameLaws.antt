@@ -1,7 +1,7 @@
 -- Laws of sameness: each test of `Same` is true exactly when its two values are equal.
 use Prim.Native.Nat.{ℕ, _<_}
 use mathlib.Core.Path.{_≡_, refl, sym, ap, _∙_}
-use mathlib.Core.Bool.{true, false, false≢true, cond}
+use mathlib.Core.Bool.{Bool, true, false, false≢true, cond}
 use mathlib.Core.List.{[], _∷_}
 use mathlib.Core.Logic.{_↔_}
 use lib.Dec.{eqb, lit<}
@@ -9,6 +9,7 @@ use native.Mathlib.Omega.{arith}
 use borrow.Author.Tests.{eqb-true}
 use Rattle.time.specs.declared.Time.{Time}
 use Rattle.time.specs.declared.Duration.{Duration}
+use Rattle.wire.specs.declared.Identity.{Identity}
 use Rattle.record.specs.declared.MaybeTime.{MaybeTime}
 use Rattle.record.specs.declared.MaybeDuration.{MaybeDuration}
 use Rattle.record.specs.declared.MaybeIdentity.{MaybeIdentity}
@@ -37,52 +38,41 @@ pub exact-duration : Exact sameDuration
 unfolding sameDuration
 exact-duration = exact-two (λ h l. record { hi = h; lo = l }) (λ a. a .hi) (λ a. a .lo) (λ a. refl)
 
--- ---- what may be missing
+-- ---- what may be missing: a type M that has nothing, what holds an A, and no more; two that hold something are the same if what they hold is
 
-time-equal : (a b : MaybeTime) → sameMaybeTime a b ≡ true → a ≡ b
-unfolding sameMaybeTime
-time-equal MaybeTime.None MaybeTime.None e = refl
-time-equal MaybeTime.None (MaybeTime.Some b) e = absurd (false≢true e)
-time-equal (MaybeTime.Some a) MaybeTime.None e = absurd (false≢true e)
-time-equal (MaybeTime.Some a) (MaybeTime.Some b) e = ap MaybeTime.Some (exact-time .equal a b e)
+module _ {A M : Type 0} (nothing : M) (holds : A → M) (cases : (P : M → Type 0) → P nothing → ((a : A) → P (holds a)) → (m : M) → P m) (held : A → A → Bool) (x : Exact held) (same : M → M → Bool) where
+  exact-maybe : same nothing nothing ≡ true → ((b : A) → same nothing (holds b) ≡ false) → ((a : A) → same (holds a) nothing ≡ false) → ((a b : A) → same (holds a) (holds b) ≡ held a b) → Exact same
+  exact-maybe neither second first both =
+      record {
+        equal = cases (λ a. (b : M) → same a b ≡ true → a ≡ b)
+            (cases (λ b. same nothing b ≡ true → nothing ≡ b) (λ e. refl) (λ b e. absurd (false≢true (sym (second b) ∙ e))))
+            (λ a. cases (λ b. same (holds a) b ≡ true → holds a ≡ b) (λ e. absurd (false≢true (sym (first a) ∙ e))) (λ b e. ap holds (x .equal a b (sym (both a b) ∙ e))));
+        same-self = cases (λ a. same a a ≡ true) neither (λ a. both a a ∙ x .same-self a);
+      }
 
-time-itself : (a : MaybeTime) → sameMaybeTime a a ≡ true
-unfolding sameMaybeTime
-time-itself MaybeTime.None = refl
-time-itself (MaybeTime.Some a) = exact-time .same-self a
+time-cases : (P : MaybeTime → Type 0) → P MaybeTime.None → ((a : Time) → P (MaybeTime.Some a)) → (m : MaybeTime) → P m
+time-cases P n s MaybeTime.None = n
+time-cases P n s (MaybeTime.Some a) = s a
 
 pub exact-maybe-time : Exact sameMaybeTime
-exact-maybe-time = record { equal = time-equal; same-self = time-itself }
+unfolding sameMaybeTime
+exact-maybe-time = exact-maybe MaybeTime.None MaybeTime.Some time-cases sameTime exact-time sameMaybeTime refl (λ b. refl) (λ a. refl) (λ a b. refl)
 
-duration-equal : (a b : MaybeDuration) → sameMaybeDuration a b ≡ true → a ≡ b
-unfolding sameMaybeDuration
-duration-equal MaybeDuration.None MaybeDuration.None e = refl
-duration-equal MaybeDuration.None (MaybeDuration.Some b) e = absurd (false≢true e)
-duration-equal (MaybeDuration.Some a) MaybeDuration.None e = absurd (false≢true e)
-duration-equal (MaybeDuration.Some a) (MaybeDuration.Some b) e = ap MaybeDuration.Some (exact-duration .equal a b e)
-
-duration-itself : (a : MaybeDuration) → sameMaybeDuration a a ≡ true
-unfolding sameMaybeDuration
-duration-itself MaybeDuration.None = refl
-duration-itself (MaybeDuration.Some a) = exact-duration .same-self a
+duration-cases : (P : MaybeDuration → Type 0) → P MaybeDuration.None → ((a : Duration) → P (MaybeDuration.Some a)) → (m : MaybeDuration) → P m
+duration-cases P n s MaybeDuration.None = n
+duration-cases P n s (MaybeDuration.Some a) = s a
 
 pub exact-maybe-duration : Exact sameMaybeDuration
-exact-maybe-duration = record { equal = duration-equal; same-self = duration-itself }
+unfolding sameMaybeDuration
+exact-maybe-duration = exact-maybe MaybeDuration.None MaybeDuration.Some duration-cases sameDuration exact-duration sameMaybeDuration refl (λ b. refl) (λ a. refl) (λ a b. refl)
 
-identity-equal : (a b : MaybeIdentity) → sameMaybeIdentity a b ≡ true → a ≡ b
-unfolding sameMaybeIdentity
-identity-equal MaybeIdentity.None MaybeIdentity.None e = refl
-identity-equal MaybeIdentity.None (MaybeIdentity.Some b) e = absurd (false≢true e)
-identity-equal (MaybeIdentity.Some a) MaybeIdentity.None e = absurd (false≢true e)
-identity-equal (MaybeIdentity.Some a) (MaybeIdentity.Some b) e = ap MaybeIdentity.Some (exact-identity .equal a b e)
-
-identity-itself : (a : MaybeIdentity) → sameMaybeIdentity a a ≡ true
-unfolding sameMaybeIdentity
-identity-itself MaybeIdentity.None = refl
-identity-itself (MaybeIdentity.Some a) = exact-identity .same-self a
+identity-cases : (P : MaybeIdentity → Type 0) → P MaybeIdentity.None → ((a : Identity) → P (MaybeIdentity.Some a)) → (m : MaybeIdentity) → P m
+identity-cases P n s MaybeIdentity.None = n
+identity-cases P n s (MaybeIdentity.Some a) = s a
 
 pub exact-maybe-identity : Exact sameMaybeIdentity
-exact-maybe-identity = record { equal = identity-equal; same-self = identity-itself }
+unfolding sameMaybeIdentity
+exact-maybe-identity = exact-maybe MaybeIdentity.None MaybeIdentity.Some identity-cases sameIdentity exact-identity sameMaybeIdentity refl (λ b. refl) (λ a. refl) (λ a b. refl)
 
 -- ---- exchanges
 
@@ -93,12 +83,12 @@ exchange-equal Exchange.Empty (Exchange.Measuring j t u) e = absurd (false≢tru
 exchange-equal (Exchange.Measuring i s r) Exchange.Empty e = absurd (false≢true e)
 exchange-equal (Exchange.Measuring i s r) (Exchange.Measuring j t u) e =
     let (x, (y, z)) = all-true (eqb i j) (sameMaybeTime s t ∷ sameMaybeTime r u ∷ []) e in
-    λ k. Exchange.Measuring (eqb-true i j x k) (time-equal s t y k) (time-equal r u z k)
+    λ k. Exchange.Measuring (eqb-true i j x k) (exact-maybe-time .equal s t y k) (exact-maybe-time .equal r u z k)
 
 exchange-itself : (a : Exchange) → sameExchange a a ≡ true
 unfolding sameExchange
 exchange-itself Exchange.Empty = refl
-exchange-itself (Exchange.Measuring i s r) = simp (exact-number .same-self, time-itself)
+exchange-itself (Exchange.Measuring i s r) = simp (exact-number .same-self, exact-maybe-time .same-self)
 
 pub exact-exchange : Exact sameExchange
 exact-exchange = record { equal = exchange-equal; same-self = exchange-itself }
@@ -111,7 +101,7 @@ peer-equal PeerState.Empty (PeerState.Measured j x) e = absurd (false≢true e)
 peer-equal (PeerState.Measuring i o a b c d) PeerState.Empty e = absurd (false≢true e)
 peer-equal (PeerState.Measuring i o a b c d) (PeerState.Measuring j x t u v w) e =
     let (m, (n, (p, (q, (r, s))))) = all-true (eqb i j) (sameMaybeIdentity o x ∷ sameMaybeTime a t ∷ sameMaybeTime b u ∷ sameMaybeTime c v ∷ sameMaybeTime d w ∷ []) e in
-    λ k. PeerState.Measuring (eqb-true i j m k) (identity-equal o x n k) (time-equal a t p k) (time-equal b u q k) (time-equal c v r k) (time-equal d w s k)
+    λ k. PeerState.Measuring (eqb-true i j m k) (exact-maybe-identity .equal o x n k) (exact-maybe-time .equal a t p k) (exact-maybe-time .equal b u q k) (exact-maybe-time .equal c v r k) (exact-maybe-time .equal d w s k)
 peer-equal (PeerState.Measuring i o a b c d) (PeerState.Measured j x) e = absurd (false≢true e)
 peer-equal (PeerState.Measured i o) PeerState.Empty e = absurd (false≢true e)
 peer-equal (PeerState.Measured i o) (PeerState.Measuring j x t u v w) e = absurd (false≢true e)
@@ -122,7 +112,7 @@ peer-equal (PeerState.Measured i o) (PeerState.Measured j x) e =
 peer-itself : (a : PeerState) → samePeer a a ≡ true
 unfolding samePeer
 peer-itself PeerState.Empty = refl
-peer-itself (PeerState.Measuring i o a b c d) = simp (exact-number .same-self, identity-itself, time-itself)
+peer-itself (PeerState.Measuring i o a b c d) = simp (exact-number .same-self, exact-maybe-identity .same-self, exact-maybe-time .same-self)
 peer-itself (PeerState.Measured i o) = simp (exact-number .same-self, exact-identity .same-self)
 
 pub exact-peer : Exact samePeer
@@ -139,12 +129,12 @@ slave-equal a b e =
       master = exact-identity .equal (a .master) (b .master) m k;
       sync = exchange-equal (a .sync) (b .sync) s k;
       delay = exchange-equal (a .delay) (b .delay) d k;
-      raw = duration-equal (a .raw) (b .raw) r k;
+      raw = exact-maybe-duration .equal (a .raw) (b .raw) r k;
     }
 
 slave-itself : (a : SlaveState) → sameSlave a a ≡ true
 unfolding sameSlave
-slave-itself a = simp (exact-identity .same-self, exchange-itself, duration-itself)
+slave-itself a = simp (exact-identity .same-self, exchange-itself, exact-maybe-duration .same-self)
 
 pub exact-slave : Exact sameSlave
 exact-slave = record { equal = slave-equal; same-self = slave-itself }
@@ -251,13 +241,13 @@ port-equal a b e =
       config = config-equal (a .config) (b .config) c k;
       state = state-equal (a .state) (b .state) s k;
       peer = peer-equal (a .peer) (b .peer) p k;
-      mean = duration-equal (a .mean) (b .mean) m k;
+      mean = exact-maybe-duration .equal (a .mean) (b .mean) m k;
       ids = ids-equal (a .ids) (b .ids) i k;
     }
 
 port-itself : (a : Port) → samePort a a ≡ true
 unfolding samePort
-port-itself a = simp (config-itself, state-itself, peer-itself, duration-itself, ids-itself)
+port-itself a = simp (config-itself, state-itself, peer-itself, exact-maybe-duration .same-self, ids-itself)
 
 pub exact-port : Exact samePort
 exact-port = record { equal = port-equal; same-self = port-itself }

@@ -1,4 +1,4 @@
--- Messages written. To be believed: `Writing`, `Numbers`. What follows: its laws, the round trips with `wire`'s reading, and whole packets both ways.
+-- Messages written. To be believed: `Writing`, `Numbers`. What follows: its laws, the round trips with crate `reading`, and whole packets both ways.
 pub mod Writing
 pub mod Numbers
 pub mod WritingLaws
