@@ -1,4 +1,5 @@
 // Which handler an event goes to.
+#![tactic(auto)]
 
 pub mod hearing;
 pub mod stamps;

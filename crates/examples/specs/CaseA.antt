@@ -6,11 +6,11 @@ use Rattle.sent.specs.Messages.{header_for, no_flag}
 use Rattle.rules.specs.Names.{Body, Config, Identity, Mechanism, NewState}
 use Rattle.rules.specs.Events.{Event, event, general, set_state}
 use Rattle.rules.specs.Running.{run_of, ns, lasting, wire_ns}
-use Rattle.log.specs.Fields.{time_at, duration_at, inner_of, state_at, event_of, general_of, set_state_of, config_of, field_of, stated_of, none_of, front_of}
+use Rattle.event_log.specs.Fields.{time_at, duration_at, inner_of, state_at, event_of, general_of, set_state_of, config_of, field_of, stated_of, none_of, front_of}
 use Rattle.streaming.specs.Log.{scan_from, scan, gathered, read_log}
 use Rattle.lines.specs.declared.Style.{Style}
 use Rattle.recording.specs.Recording.{field_bytes, state_bytes, config_bytes, event_bytes}
-use Rattle.recording.specs.ReadsBack.{events_bytes}
+use Rattle.recording.proofs.ReadsBack.{events_bytes}
 use Rattle.replaying.specs.Replay.{last_of, lines_for, lines_of, replay_lines}
 use Rattle.text.specs.Ascii.{text_of}
 use Rattle.examples.specs.Marked.{written}

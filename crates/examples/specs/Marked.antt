@@ -6,13 +6,13 @@ use Rattle.rules.specs.Names.{Config, Port}
 use Rattle.rules.specs.Events.{Event}
 use Rattle.rules.specs.Running.{run_of}
 use Rattle.text.specs.Digits.{decimal_in, glyph_of, hex_in, hex_of}
-use Rattle.log.specs.Fields.{time_at, duration_at, inner_of, context_at, state_at, event_of, general_of, stamp_of, delay_timer_of, set_state_of, config_of, field_of, stated_of, none_of, front_of}
+use Rattle.event_log.specs.Fields.{time_at, duration_at, inner_of, context_at, state_at, event_of, general_of, stamp_of, delay_timer_of, set_state_of, config_of, field_of, stated_of, none_of, front_of}
 use Rattle.streaming.specs.Log.{scan_from, scan, gathered, read_log}
 use Rattle.lines.specs.declared.Style.{Style}
 use Rattle.lines.specs.Lines.{maybe_time, maybe_duration, maybe_identity, shown_of, context_text, link_text, action_text, reset_text, line_with, exchange_text, peer_text, slave_texts, end_line, last_line}
 use Rattle.recording.specs.Recording.{field_bytes, context_bytes, state_bytes, config_bytes, event_bytes}
 use Rattle.recording.specs.Fitting.{ConfigIn}
-use Rattle.recording.specs.ReadsBack.{events_bytes, Recordable, log_reads_back}
+use Rattle.recording.proofs.ReadsBack.{events_bytes, Recordable, log_reads_back}
 use Rattle.replaying.specs.Replay.{results_from, record_after, numbered, last_of, lines_for, lines_of, replay_lines}
 use Rattle.text.specs.Ascii.{text_of}
 use Rattle.examples.specs.Cases.{Case, cases, logs}

@@ -1,5 +1,7 @@
 // Rows 2 and 3 of document 01's table: which record is unfit, and which time or draw of an event is out of limits. Functions
 // and no methods, which would have to stand with the record's types.
+#![tactic(auto)]
+
 ghost use Rattle.std.specs.Prelude.{◌≡◌, ◌||◌};
 ghost use Rattle.fitness.specs.Fit.{held_time, times_in, peer_times, slave_times, time_out, any_out, interval_out, draw_out, there, timeless, unanswered, full, peer_full, sync_timeless, slave_full, config_out, unfit};
 

@@ -1,4 +1,6 @@
 // What the host tells: the filter's answer, and a state.
+#![tactic(auto)]
+
 ghost use Rattle.std.specs.Prelude.{◌≡◌};
 ghost use Rattle.rules.specs.Rules.{mean_given, state_of, filtered, state_set};
 ghost use Rattle.handling.specs.Handling.{handled_of};

@@ -1,5 +1,7 @@
 // What the handlers of a port hand on: the answer, and the message that is to be sent with it, not yet written.
 // Function send writes it, for crate port. Handlers are in crates slave and master.
+#![tactic(auto)]
+
 pub mod sending;
 
 ghost use Rattle.std.specs.Prelude.{◌≡◌, false, [], ◌∷◌};
@@ -11,13 +13,13 @@ ghost use Rattle.handling.specs.Handling.{handed_on, turned_down};
 use record::{Action, Answer, Config, Measurement, Outcome, Port};
 use sent::{Message, Sender};
 
-#[derive(Drop)]
+#[derive(Clone, Copy)]
 pub enum MaybeMessage {
     None,
     Some(Message),
 }
 
-#[derive(Drop)]
+#[derive(Clone, Copy)]
 pub struct Handled {
     pub answer: Answer,
     pub message: MaybeMessage,

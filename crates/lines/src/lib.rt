@@ -1,5 +1,7 @@
 // The lines of `replay` and `trace`, written into a lent buffer from a place on. Each function answers the place behind what it wrote;
 // where the buffer ends nothing more is written.
+#![tactic(auto)]
+
 ghost use Rattle.std.specs.Prelude.{◌∷◌, []};
 ghost use Rattle.record.specs.Answers.{number_of, first_actions};
 ghost use Rattle.text.specs.Page.{Wrote};
@@ -14,14 +16,14 @@ mod values;
 use record::{Answer, MaybeDuration, MaybeTime, Outcome, Port};
 
 // Which lines are written: document 01's, or those that show all of an answer.
-#[derive(Drop)]
+#[derive(Clone, Copy)]
 pub enum Style {
     Replay,
     Trace,
 }
 
 // What a line shows of a measurement: its letter, the raw (for P the halved) value, event time, offset and delay.
-#[derive(Drop)]
+#[derive(Clone, Copy)]
 pub struct Shown {
     pub letter: u8,
     pub value: MaybeDuration,

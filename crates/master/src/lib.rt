@@ -1,5 +1,7 @@
 // The answering half of a port, after master.rs of the Rust: the Sync and its FollowUp, which a Master sends,
 // and what is answered to the requests of others. The rules are those of crate rules.
+#![tactic(auto)]
+
 ghost use Rattle.std.specs.Prelude.{◌≡◌, []};
 ghost use Rattle.record.specs.declared.Context.{Context};
 ghost use Rattle.record.specs.Record.{is_master};
@@ -16,7 +18,7 @@ use time::Time;
 use timers::{TimerAnswer, sync_timer};
 use wire::{Header, Identity};
 
-#[derive(Drop)]
+#[derive(Clone, Copy)]
 pub struct Answering {
     pub port: Port,
 }

@@ -8,7 +8,7 @@ use Rattle.rules.specs.Names.{Time, Duration, DurationAnswer, Identity, MaybeDur
 use Rattle.rules.specs.Worked.{Worked, worked, refused, ◌then◌, a_duration, elapsed, less_duration}
 use Rattle.rules.specs.Events.{Done}
 use Rattle.rules.specs.Measuring.{measured, less_mean, sync_out, measure_sync, half_below, delay_out, measure_delay, peer_out, measure_peer}
-use Rattle.rules.specs.AgreeLaws.{then_then}
+use Rattle.rules.proofs.AgreeLaws.{then_then}
 use Rattle.record.specs.Record.{is_faulty}
 use Rattle.measurement.specs.Taking.{raw_between, twice_delay}
 

@@ -11,9 +11,9 @@ use Rattle.rules.specs.Worked.{Worked, worked, refused}
 use Rattle.rules.specs.Events.{Event, Done, Result, packet, refusal, answered, buffer_after}
 use Rattle.rules.specs.Table.{row1, row3}
 use Rattle.rules.specs.Step.{rule_of, step}
-use Rattle.rules.specs.RefusalLaws.{step_rule}
+use Rattle.rules.proofs.RefusalLaws.{step_rule}
 use Rattle.rules.specs.Given.{BytesIn, ContextIn, PortIn, InTypes}
-use Rattle.rules.specs.WritableLaws.{Writable, sent_writable}
+use Rattle.rules.proofs.WritableLaws.{Writable, sent_writable}
 use Rattle.handling.specs.declared.Handled.{Handled}
 use Rattle.handling.specs.Handling.{maybe_message, handed_on, turned_down, handled_of}
 use Rattle.rows.specs.declared.Gate.{Gate}

@@ -2,11 +2,11 @@
 use Rattle.std.specs.Prelude.{ℕ, ◌≡◌, refl, length}
 use Rattle.record.specs.declared.Answer.{Answer}
 use Rattle.record.specs.Answers.{answer_of, first_actions}
-use Rattle.record.specs.AnswersLaws.{actions_back}
+use Rattle.record.proofs.AnswersLaws.{actions_back}
 use Rattle.rules.specs.Names.{Port}
 use Rattle.rules.specs.Events.{Event, Result}
 use Rattle.rules.specs.Step.{step}
-use Rattle.rules.specs.ActionLaws.{actions_orderly}
+use Rattle.rules.proofs.ActionLaws.{actions_orderly}
 use Rattle.port.specs.Entries.{answer_for}
 
 pub record TellsResult (r : Result) (a : Answer) : Type 0 where

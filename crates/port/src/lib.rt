@@ -1,5 +1,7 @@
 // A port at work: the seven entries of document 01's event list, each over the packet buffer that its caller lends.
 // Every entry is the same: the gate of rows 1, 2 and 3, what the event's handler hands on, and the packet.
+#![tactic(auto)]
+
 ghost use Rattle.rules.specs.Events.{event, general, stamp, sync_timer, delay_timer, filter_answer, set_state};
 ghost use Rattle.port.specs.Entries.{Answers};
 
@@ -11,7 +13,7 @@ use rows::Gate;
 use time::Time;
 
 // The Rust's Port<Running>: it goes in by value, and the record to go on with is in the answer.
-#[derive(Drop)]
+#[derive(Clone, Copy)]
 pub struct Running {
     pub record: Port,
 }

@@ -10,7 +10,7 @@ use Rattle.wire.specs.declared.Header.{Header}
 use Rattle.wire.specs.declared.Body.{Body}
 use Rattle.reading.specs.declared.Reading.{Reading}
 use Rattle.reading.specs.declared.Reading.TheVariants as G
-use Rattle.bytes.specs.Bytes.{field_at}
+use Rattle.octets.specs.Bytes.{field_at}
 use Rattle.wire.specs.Layout.{row, kind_of, header_of, body_of, timestamp_at, body, low_half, minor_version_ptp_version_ptp, major_sdo_id_message_type, message_length}
 
 -- row 4: fewer than two bytes, or another version

@@ -14,12 +14,12 @@ use Rattle.wire.specs.declared.Header.{Header}
 use Rattle.wire.specs.declared.Body.{Body}
 use Rattle.reading.specs.declared.Reading.{Reading}
 use Rattle.reading.specs.declared.Reading.TheVariants as G
-use Rattle.bytes.specs.Bytes.{field_at, Bytes}
+use Rattle.octets.specs.Bytes.{field_at, Bytes}
 use Rattle.wire.specs.Layout.{row, header_of, body_of, type_of, timestamp_of, timestamp_at, body, low_half, minor_version_ptp_version_ptp, major_sdo_id_message_type, message_length}
 use Rattle.reading.specs.Reading.{row4, row5, reserved, short_for, timed, message_of, decoded, read_of, kind_in}
 use Rattle.reading.specs.Numbers.{number_of, kind_number}
-use Rattle.bytes.specs.BytesLaws.{neither, apart, number_lt}
-use Rattle.wire.specs.LayoutLaws.{kind_number_lem, type_body, timestamp_body}
+use Rattle.octets.proofs.BytesLaws.{neither, apart, number_lt}
+use Rattle.wire.proofs.LayoutLaws.{kind_number_lem, type_body, timestamp_body}
 
 -- each timestamp of bytes is a time, so row 5 is all that makes bytes malformed (`malformed_is`)
 pub timestamp_read : (at : ℕ) (l : List ℕ) → Bytes l → time_of_wire (timestamp_at at l) ≡ R.Value (time_words (wire (timestamp_at at l)))

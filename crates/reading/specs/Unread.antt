@@ -3,7 +3,7 @@ use Rattle.std.specs.Prelude.{ℕ, ◌+◌, Bool, false, ◌&&◌, ◌||◌, Lis
 use Rattle.wire.specs.declared.MessageType.TheVariants as M
 use Rattle.wire.specs.declared.Kind.{Kind}
 use Rattle.wire.specs.declared.Kind.TheVariants as K
-use Rattle.bytes.specs.Bytes.{Place}
+use Rattle.octets.specs.Bytes.{Place}
 use Rattle.wire.specs.Layout.{row, body, message_type_specific, control_field, reserved_bytes}
 
 abbrev pub reserved_in : Kind → List Place

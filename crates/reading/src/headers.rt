@@ -8,21 +8,21 @@ pub(crate) fn header_at(s: &[u8]) -> Header
     requires { 34 ≤ length s.now }
     ensures { result ≡ header_of s.now }
 {
-    let first = bytes::get_u8(s, 0);
-    let second = bytes::get_u8(s, 1);
+    let first = octets::get_u8(s, 0);
+    let second = octets::get_u8(s, 1);
     let source = fields::get_identity(s, 20);
     Header {
         major_sdo: first / 16,
         kind: first % 16,
         minor: second / 16,
         version: second % 16,
-        length: bytes::get_u16(s, 2),
-        domain: bytes::get_u8(s, 4),
-        minor_sdo: bytes::get_u8(s, 5),
-        flags: bytes::get_u16(s, 6),
-        correction: bytes::get_u64(s, 8),
+        length: octets::get_u16(s, 2),
+        domain: octets::get_u8(s, 4),
+        minor_sdo: octets::get_u8(s, 5),
+        flags: octets::get_u16(s, 6),
+        correction: octets::get_u64(s, 8),
         source,
-        id: bytes::get_u16(s, 30),
-        interval: bytes::get_u8(s, 33),
+        id: octets::get_u16(s, 30),
+        interval: octets::get_u8(s, 33),
     }
 }

@@ -1,4 +1,6 @@
 // A message read from any bytes, with one answer (document 01, rows 4 and 5 of its table).
+#![tactic(auto)]
+
 ghost use Rattle.std.specs.Prelude.{◌≡◌};
 ghost use Rattle.reading.specs.Reading.{read_of};
 
@@ -10,7 +12,7 @@ use wire::{Body, Header, Kind};
 
 // What bytes are: a message, with the time that its timestamp means; a message that is the host's; or
 // what document 01's table refuses, by row 4 or by row 5.
-#[derive(Drop)]
+#[derive(Clone, Copy)]
 pub enum Reading {
     Message {
         header: Header,
@@ -32,7 +34,7 @@ pub fn read(s: &[u8]) -> Reading
     if n < 2 {
         return Reading::Version;
     }
-    let second = bytes::get_u8(s, 1);
+    let second = octets::get_u8(s, 1);
     if second % 16 != 2 {
         return Reading::Version;
     }
@@ -40,7 +42,7 @@ pub fn read(s: &[u8]) -> Reading
         return Reading::Malformed;
     }
     let header = headers::header_at(s);
-    let stated = bytes::size(header.length);
+    let stated = octets::size(header.length);
     if (stated < 34) | (n < stated) {
         return Reading::Malformed;
     }

@@ -5,6 +5,4 @@ pub mod Same
 pub mod Answers
 pub mod JoinedLaws
 pub mod ExactLaws
-pub mod SameLaws
-pub mod AnswersLaws
 pub mod Examples

@@ -1,6 +1,7 @@
 // The port record, the small types of its events, and its answer (document 01, 'Numbers the port answers' and
 // 'What each event does'). Every value goes in and comes out by value. The types can hold what row 2 of the
 // table calls unfit, so that it can be answered.
+#![tactic(auto)]
 
 mod answers;
 pub mod equality;
@@ -10,26 +11,26 @@ pub mod sequence;
 use time::{Duration, Time};
 use wire::Identity;
 
-#[derive(Drop)]
+#[derive(Clone, Copy)]
 pub enum MaybeTime {
     None,
     Some(Time),
 }
 
-#[derive(Drop)]
+#[derive(Clone, Copy)]
 pub enum MaybeDuration {
     None,
     Some(Duration),
 }
 
-#[derive(Drop)]
+#[derive(Clone, Copy)]
 pub enum MaybeIdentity {
     None,
     Some(Identity),
 }
 
 // A sync or a delay exchange, with the times that it holds.
-#[derive(Drop)]
+#[derive(Clone, Copy)]
 pub enum Exchange {
     Empty,
     Measuring {
@@ -40,7 +41,7 @@ pub enum Exchange {
 }
 
 // What the port keeps only as Slave. raw is the last raw sync offset.
-#[derive(Drop)]
+#[derive(Clone, Copy)]
 pub struct SlaveState {
     pub master: Identity,
     pub sync: Exchange,
@@ -48,7 +49,7 @@ pub struct SlaveState {
     pub raw: MaybeDuration,
 }
 
-#[derive(Drop)]
+#[derive(Clone, Copy)]
 pub enum PortState {
     Listening,
     Master,
@@ -58,7 +59,7 @@ pub enum PortState {
 }
 
 // The peer exchange, which every state has.
-#[derive(Drop)]
+#[derive(Clone, Copy)]
 pub enum PeerState {
     Empty,
     Measuring {
@@ -75,14 +76,14 @@ pub enum PeerState {
     },
 }
 
-#[derive(Drop)]
+#[derive(Clone, Copy)]
 pub enum Mechanism {
     EndToEnd,
     Peer,
 }
 
 // What a port is set up with. An interval is a byte in two's complement, as on the wire.
-#[derive(Drop)]
+#[derive(Clone, Copy)]
 pub struct Config {
     pub identity: Identity,
     pub sdo: u16,
@@ -95,7 +96,7 @@ pub struct Config {
 }
 
 // The ids that the next message of each kind takes.
-#[derive(Drop)]
+#[derive(Clone, Copy)]
 pub struct Ids {
     pub sync: u16,
     pub delay: u16,
@@ -103,7 +104,7 @@ pub struct Ids {
 }
 
 // The record. mean is the mean delay that the filter last gave.
-#[derive(Drop)]
+#[derive(Clone, Copy)]
 pub struct Port {
     pub config: Config,
     pub state: PortState,
@@ -115,7 +116,7 @@ pub struct Port {
 // ---- events
 
 // What a send stamp belongs to.
-#[derive(Drop)]
+#[derive(Clone, Copy)]
 pub enum Context {
     Sync { id: u16 },
     DelayReq { id: u16 },
@@ -124,7 +125,7 @@ pub enum Context {
 }
 
 // The state that the host sets; Slave with its master.
-#[derive(Drop)]
+#[derive(Clone, Copy)]
 pub enum NewState {
     Listening,
     Master,
@@ -133,14 +134,14 @@ pub enum NewState {
     Slave(Identity),
 }
 
-#[derive(Drop)]
+#[derive(Clone, Copy)]
 pub enum MaybeNanoseconds {
     None,
     Some(u64),
 }
 
 // What the filter answers to a measurement.
-#[derive(Drop)]
+#[derive(Clone, Copy)]
 pub struct FilterUpdate {
     pub mean_delay: MaybeDuration,
     pub next_update: MaybeNanoseconds,
@@ -149,7 +150,7 @@ pub struct FilterUpdate {
 // ---- answers
 
 // A case for each row of the table.
-#[derive(Drop)]
+#[derive(Clone, Copy)]
 pub enum Outcome {
     Taken,
     Buffer,
@@ -163,7 +164,7 @@ pub enum Outcome {
 }
 
 // raw is what the times alone say; offset and delay need what was kept before.
-#[derive(Drop)]
+#[derive(Clone, Copy)]
 pub enum Measurement {
     Sync {
         event_time: Time,
@@ -181,14 +182,14 @@ pub enum Measurement {
     },
 }
 
-#[derive(Drop)]
+#[derive(Clone, Copy)]
 pub enum MaybeMeasurement {
     None,
     Some(Measurement),
 }
 
 // What the host has to do. Timers are in nanoseconds; a packet is what the buffer begins with.
-#[derive(Drop)]
+#[derive(Clone, Copy)]
 pub enum Action {
     None,
     ResetSyncTimer { ns: u64 },
@@ -198,13 +199,13 @@ pub enum Action {
     SendGeneral { link_local: bool },
 }
 
-#[derive(Drop)]
+#[derive(Clone, Copy)]
 pub struct Todo {
     pub action: Action,
 }
 
 // The first count places hold the actions, in their order; the others hold the empty one.
-#[derive(Drop)]
+#[derive(Clone, Copy)]
 pub struct Answer {
     pub outcome: Outcome,
     pub port: Port,

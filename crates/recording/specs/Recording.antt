@@ -3,7 +3,7 @@ use Rattle.std.specs.Prelude.{ℕ, ◌≡◌, Bool, true, ◌&&◌, cond, List, 
 use Rattle.time.specs.declared.Time.{Time}
 use Rattle.time.specs.declared.Duration.{Duration}
 use Rattle.wire.specs.declared.Identity.{Identity}
-use Rattle.bytes.specs.Bytes.{spell}
+use Rattle.octets.specs.Bytes.{spell}
 use Rattle.writing.specs.declared.Written.{Written}
 use Rattle.record.specs.declared.Config.{Config}
 use Rattle.record.specs.declared.Context.{Context}

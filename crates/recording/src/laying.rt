@@ -1,6 +1,6 @@
 // The parts of a field, laid one behind the other. Each function answers the place behind what it laid.
 ghost use Rattle.std.specs.Prelude.{◌≡◌, [], ◌∷◌, ◌++◌, length};
-ghost use Rattle.bytes.specs.Bytes.{spell};
+ghost use Rattle.octets.specs.Bytes.{spell};
 ghost use Rattle.text.specs.Page.{Wrote};
 ghost use Rattle.recording.specs.Recording.{field_bytes, time_bytes, duration_bytes, identity_bytes, context_bytes, state_bytes, mean_bytes, next_bytes, mechanism_byte};
 

@@ -1,6 +1,8 @@
 // Writing an event log (document 01, 'Event log'): the configuration, and an event of each kind, laid at the front of a lent buffer. A host
 // that records its day lends what is left of its buffer. Each function answers the size of what it laid, `Short` where there is no room,
 // or `Unfit` for a message of more than 1024 bytes; a refusal leaves the buffer as it was.
+#![tactic(auto)]
+
 ghost use Rattle.std.specs.Prelude.{true};
 ghost use Rattle.rules.specs.Events.{event, general, stamp, sync_timer, delay_timer, filter_answer, set_state};
 ghost use Rattle.recording.specs.Recording.{config_bytes, Appends, Records};

@@ -7,7 +7,7 @@ use Rattle.record.specs.declared.Answer.{Answer}
 use Rattle.record.specs.declared.Port.{Port}
 use Rattle.rules.specs.Events.{Event, event, general}
 use Rattle.port.specs.Entries.{Answers}
-use Rattle.log.specs.declared.Logged.{Logged}
+use Rattle.event_log.specs.declared.Logged.{Logged}
 use Rattle.streaming.specs.Log.{told}
 use Rattle.streaming.specs.FrontLaws.{Placed}
 

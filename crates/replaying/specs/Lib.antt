@@ -4,8 +4,3 @@ pub mod Turns
 pub mod Sessions
 pub mod OneLaws
 pub mod AnsweringLaws
-pub mod TurnLaws
-pub mod RunLaws
-pub mod WritesLaws
-pub mod SessionLaws
-pub mod EndsLaws

@@ -7,19 +7,19 @@ use Rattle.std.proofs.Math.Seq.{take_at}
 use Rattle.record.specs.declared.Config.{Config}
 use Rattle.record.specs.declared.Port.{Port}
 use Rattle.rules.specs.Events.{Event, Result, buffer_after}
-use Rattle.rules.specs.ActionLaws.{actions_orderly}
+use Rattle.rules.proofs.ActionLaws.{actions_orderly}
 use Rattle.rules.specs.Step.{step}
 use Rattle.port.specs.Entries.{answer_for, Answers}
 use Rattle.port.specs.ToldLaws.{TellsResult, answer_tells}
-use Rattle.rules.specs.BufferLaws.{sent_fits, buffer_length}
+use Rattle.rules.proofs.BufferLaws.{sent_fits, buffer_length}
 use Rattle.record.specs.declared.Answer.{Answer}
-use Rattle.bytes.specs.BytesLaws.{apart}
-use Rattle.log.specs.declared.Logged.{Logged}
-use Rattle.log.specs.declared.Next.{Next}
-use Rattle.log.specs.Fields.{front_of}
+use Rattle.octets.proofs.BytesLaws.{apart}
+use Rattle.event_log.specs.declared.Logged.{Logged}
+use Rattle.event_log.specs.declared.Next.{Next}
+use Rattle.event_log.specs.Fields.{front_of}
 use Rattle.streaming.specs.Log.{Fields, starts, next, good, bad, rest, scan, told, onward}
 use Rattle.streaming.specs.FrontLaws.{Placed}
-use Rattle.streaming.specs.StreamingLaws.{scan_at, front_fits, front_placed, front_config_fits, more_small}
+use Rattle.streaming.proofs.StreamingLaws.{scan_at, front_fits, front_placed, front_config_fits, more_small}
 use Rattle.lines.specs.declared.Style.{Style}
 use Rattle.lines.specs.Lines.{line_of, line_for, bad_line, last_line}
 use Rattle.lines.specs.LinesLaws.{line_short, bad_short, last_short}

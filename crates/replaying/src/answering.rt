@@ -4,7 +4,7 @@ ghost use Rattle.port.specs.Entries.{Answers};
 ghost use Rattle.streaming.specs.Log.{told};
 ghost use Rattle.streaming.specs.FrontLaws.{Placed};
 
-use log::Logged;
+use event_log::Logged;
 use port::Running;
 use record::{Answer, Port};
 

@@ -1,5 +1,7 @@
 // Replaying a log, a window at a time: the lines of the events in some bytes, as many as a buffer takes. A program lends the bytes that it has
 // read and a buffer, writes what stands in the buffer, and comes again with what was left unread and more behind it.
+#![tactic(auto)]
+
 ghost use Rattle.std.specs.Prelude.{◌≡◌, length};
 ghost use Rattle.replaying.specs.Turns.{Turned, Leaves, opened, moved};
 ghost use Rattle.replaying.specs.Sessions.{start_of};
@@ -14,7 +16,7 @@ use time::Duration;
 use wire::Identity;
 
 // What stands between two fields: whether the configuration is still due, the port, the number of the next event, and the offset of the next field.
-#[derive(Drop)]
+#[derive(Clone, Copy)]
 pub struct State {
     pub first: bool,
     pub port: Port,
@@ -23,7 +25,7 @@ pub struct State {
 }
 
 // Why a turn ended: no room for a line, bytes wanted, or nothing more to come.
-#[derive(Drop)]
+#[derive(Clone, Copy)]
 pub enum Stop {
     Full,
     More,
@@ -31,7 +33,7 @@ pub enum Stop {
 }
 
 // How many bytes of the window were read, and how many of the buffer written.
-#[derive(Drop)]
+#[derive(Clone, Copy)]
 pub struct TurnEnd {
     pub state: State,
     pub read: usize,

@@ -3,11 +3,11 @@ ghost use Rattle.std.specs.Prelude.{◌≡◌, ◌+◌, ◌≤◌, length};
 ghost use Rattle.replaying.specs.OneLaws.{One};
 
 use crate::{State, Stop, answering};
+use event_log::Next;
 use lines::Style;
-use log::Next;
 
 // The state behind the field, the place behind it in the window, and the place behind its line in the buffer; or why nothing comes behind it.
-#[derive(Drop)]
+#[derive(Clone, Copy)]
 pub(crate) enum Went {
     On(State, usize, usize),
     Stops(Stop, usize),
@@ -33,7 +33,7 @@ pub(crate) fn one(
     let number = q.number;
     let offset = q.offset;
     let rest = &s[i..];
-    match log::front(q.first, rest, last) {
+    match event_log::front(q.first, rest, last) {
         Next::Config(config) => Went::On(q.opened(config, 36), i + 36, to),
         Next::Event { event, size } => {
             let answer = answering::answer(port, event, &rest[..size], packet);

@@ -1,4 +1,6 @@
 // Our own requests, when the delay timer has run out: a new id, an exchange begun with it, the timer set anew, the message.
+#![tactic(auto)]
+
 ghost use Rattle.std.specs.Prelude.{◌≡◌};
 ghost use Rattle.rules.specs.Names.{Mechanism};
 ghost use Rattle.rules.specs.Rules.{delay_sent, peer_sent, request, delay_timer_ends};

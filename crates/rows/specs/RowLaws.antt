@@ -1,7 +1,7 @@
 -- A gate that is shut is what `step` refuses, and what is heard goes to its rule as `step` has it.
 use Rattle.std.specs.Prelude.{ℕ, ◌≡◌, refl, Bool, true, false, cond, ltb}
 use Rattle.std.proofs.Common.{ap}
-use Rattle.bytes.specs.BytesLaws.{apart}
+use Rattle.octets.proofs.BytesLaws.{apart}
 use Rattle.fitness.specs.Fit.{unfit}
 use Rattle.rules.specs.Names.{Time, Header, Body, Reading, Config, Port, Outcome}
 use Rattle.rules.specs.Worked.{Worked, refused}

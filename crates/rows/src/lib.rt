@@ -1,5 +1,7 @@
 // Document 01's table ('Numbers the port answers'), row by row: rows 1, 2 and 3, which every event passes first, and
 // rows 4, 5, 6 and 8, which a message passes behind them.
+#![tactic(auto)]
+
 ghost use Rattle.std.specs.Prelude.{◌≡◌};
 ghost use Rattle.reading.specs.Reading.{read_of};
 ghost use Rattle.rules.specs.Given.{PortIn};
@@ -14,14 +16,14 @@ use wire::{Body, Header};
 // Whatever the event is, and whether it sends or not.
 const LEAST_BUFFER: usize = 64;
 
-#[derive(Drop)]
+#[derive(Clone, Copy)]
 pub enum Gate {
     Open,
     Shut(Outcome),
 }
 
 // A message that is for us and has a handler here, or the row that refuses it.
-#[derive(Drop)]
+#[derive(Clone, Copy)]
 pub enum Heard {
     Message {
         header: Header,

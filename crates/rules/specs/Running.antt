@@ -3,7 +3,7 @@ use Rattle.std.specs.Prelude.{ℕ, ◌-◌, ◌*◌, ◌/◌, ◌%◌, ◌^◌, 
 use Rattle.time.specs.declared.WireTimestamp.{WireTimestamp}
 use Rattle.time.specs.Units.{time, in_time, time_words, time_of, signed, duration, in_duration, duration_words, duration_of, wire, time_of_wire, wire_of, correction, half, half_of}
 use Rattle.timers.specs.Timers as Timers
-use Rattle.bytes.specs.Bytes.{number, field_at, spell, bytes_of}
+use Rattle.octets.specs.Bytes.{number, field_at, spell, bytes_of}
 use Rattle.wire.specs.Layout.{sdo_id, two_step, two_step_flag, timestamp_entries, timestamp_at, identity_entries, identity_at, header_entries, header_of, kind_of, body_entries, body_of, type_of, message_entries, message_bytes, sequence_id}
 use Rattle.reading.specs.Reading.{row4, row5, message_of, read_of}
 use Rattle.sent.specs.Messages.{header_for, no_flag, no_interval, zero_timestamp, correction_of, answer_stamp, follow_stamp, sync_of, delay_req_of, follow_up_of, p_delay_req_of, p_delay_resp_of, delay_resp_of, p_delay_resp_follow_up_of}

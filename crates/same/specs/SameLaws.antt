@@ -20,7 +20,7 @@ use Rattle.record.specs.Record.{state_number}
 use Rattle.record.specs.JoinedLaws.{all_true}
 use Rattle.record.specs.ExactLaws.{Exact, same_exactly, same_differ, exact_number, exact_two}
 use Rattle.record.specs.Same.{same_identity}
-use Rattle.record.specs.SameLaws.{exact_identity}
+use Rattle.record.proofs.SameLaws.{exact_identity}
 use Rattle.same.specs.Same.{same_time, same_duration, same_maybe_time, same_maybe_duration, same_maybe_identity, same_exchange, same_slave, same_state, same_peer, same_mechanism, same_config, same_ids, same_port}
 
 -- ---- what two numbers make up

@@ -1,5 +1,7 @@
 // Whether two records, or two parts of one kind, are equal: for hosts and for tests. No rule compares more than identities, and those
 // are compared in `record`. Functions and no methods, which would have to stand with the record's types.
+#![tactic(auto)]
+
 ghost use Rattle.std.specs.Prelude.{◌≡◌};
 ghost use Rattle.same.specs.Same.{same_time, same_duration, same_maybe_time, same_maybe_duration, same_maybe_identity, same_slave, slave_is, same_state, same_mechanism, same_config, same_ids, same_port};
 

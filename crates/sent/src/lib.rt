@@ -1,5 +1,7 @@
 // What the port sends (document 01, 'Sent messages'): the header and body values of the seven messages,
 // from one Sender. Nothing is written here: crate writing does that.
+#![tactic(auto)]
+
 ghost use Rattle.std.specs.Prelude.{◌≡◌, pos, ◌-ℤ◌};
 ghost use Rattle.time.specs.Units.{signed};
 ghost use Rattle.sent.specs.Messages.{correction_of, answer_stamp, follow_stamp, header_for, sync_of, follow_up_of, delay_req_of, delay_resp_of, p_delay_req_of, p_delay_resp_of, p_delay_resp_follow_up_of, zero_timestamp};
@@ -8,7 +10,7 @@ use time::{Time, WireAnswer, WireTimestamp};
 use wire::{Body, Header, Identity, MessageType};
 
 // What every sent message carries of us.
-#[derive(Drop)]
+#[derive(Clone, Copy)]
 pub struct Sender {
     pub sdo: u16,
     pub domain: u8,
@@ -17,28 +19,28 @@ pub struct Sender {
 }
 
 // A message to be written.
-#[derive(Drop)]
+#[derive(Clone, Copy)]
 pub struct Message {
     pub header: Header,
     pub body: Body,
 }
 
 // A message, or Out where its correction leaves 64 bits or its seconds leave 48.
-#[derive(Drop)]
+#[derive(Clone, Copy)]
 pub enum MessageAnswer {
     Value(Message),
     Out,
 }
 
 // A correction field, or Out where it leaves 64 bits.
-#[derive(Drop)]
+#[derive(Clone, Copy)]
 pub enum CorrectionAnswer {
     Value(u64),
     Out,
 }
 
 // What a message carries of a stamp: its timestamp and a correction, or Out where either leaves its bits.
-#[derive(Drop)]
+#[derive(Clone, Copy)]
 pub enum Carried {
     Value {
         timestamp: WireTimestamp,

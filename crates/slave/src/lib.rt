@@ -1,19 +1,20 @@
 // The measuring half of a port, the Rust's slave.rs: what Sync, FollowUp, DelayResp and the peer's answers bring, and the
 // stamps of our own requests, which crate requests sends. Crate rules says what each of them does, crate measurement what
 // a complete exchange measures; crate dispatch says which events come here.
+#![tactic(auto)]
 
 mod answers;
 mod keeping;
 
 use record::Port;
 
-#[derive(Drop)]
+#[derive(Clone, Copy)]
 pub struct Measuring {
     pub port: Port,
 }
 
 // An answer to a PDelayReq: for another port, from a second responder, or ours.
-#[derive(Drop)]
+#[derive(Clone, Copy)]
 pub enum Guard {
     Foreign,
     Second,

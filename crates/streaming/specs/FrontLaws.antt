@@ -7,19 +7,19 @@ use borrow.Author.Tests.{leb-true, leb-false, eqb-true, eqb-false, ltb-false, le
 use Rattle.std.proofs.lemmas.List.{take-append-le}
 use Rattle.std.proofs.Math.Dec.{leb, eqb}
 use Rattle.time.specs.declared.Time.{Time}
-use Rattle.bytes.specs.Bytes.{number}
-use Rattle.bytes.specs.BytesLaws.{number_inside}
+use Rattle.octets.specs.Bytes.{number}
+use Rattle.octets.proofs.BytesLaws.{number_inside}
 use Rattle.record.specs.declared.MaybeDuration.{MaybeDuration}
 use Rattle.record.specs.declared.Mechanism.{Mechanism}
-use Rattle.log.specs.declared.Logged.{Logged}
-use Rattle.log.specs.declared.Inner.{Inner}
-use Rattle.log.specs.declared.Found.{Found}
-use Rattle.log.specs.declared.Next.{Next}
-use Rattle.log.specs.declared.MaybeContext.{MaybeContext}
-use Rattle.log.specs.declared.MaybeState.{MaybeState}
-use Rattle.log.specs.Fields.{time_at, duration_at, inner_of, needed, exactly, perhaps, ends, context_at, state_at, stamp_found, state_found, event_of, general_of, stamp_of, sync_timer_of}
-use Rattle.log.specs.Fields.{delay_timer_of, update_of, filter_of, set_state_of, config_with, config_of, field_of, stated_of, possible, seen, none_of, cut_of, front_of}
-use Rattle.log.specs.FieldsLaws.{front_cut, front_whole, impossible, impossible_grows, possible_small}
+use Rattle.event_log.specs.declared.Logged.{Logged}
+use Rattle.event_log.specs.declared.Inner.{Inner}
+use Rattle.event_log.specs.declared.Found.{Found}
+use Rattle.event_log.specs.declared.Next.{Next}
+use Rattle.event_log.specs.declared.MaybeContext.{MaybeContext}
+use Rattle.event_log.specs.declared.MaybeState.{MaybeState}
+use Rattle.event_log.specs.Fields.{time_at, duration_at, inner_of, needed, exactly, perhaps, ends, context_at, state_at, stamp_found, state_found, event_of, general_of, stamp_of, sync_timer_of}
+use Rattle.event_log.specs.Fields.{delay_timer_of, update_of, filter_of, set_state_of, config_with, config_of, field_of, stated_of, possible, seen, none_of, cut_of, front_of}
+use Rattle.event_log.proofs.FieldsLaws.{front_cut, front_whole, impossible, impossible_grows, possible_small}
 
 -- ---- what a field of m bytes holds
 

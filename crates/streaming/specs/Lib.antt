@@ -2,5 +2,3 @@
 pub mod Log
 pub mod Streaming
 pub mod FrontLaws
-pub mod StreamingLaws
-pub mod Examples

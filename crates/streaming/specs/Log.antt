@@ -3,9 +3,9 @@ use Rattle.std.specs.Prelude.{ℕ, zero, suc, ◌+◌, ◌-◌, Bool, true, fals
 use Rattle.std.proofs.Math.Option.{Option, none, some}
 use Rattle.record.specs.declared.Config.{Config}
 use Rattle.rules.specs.Events.{Event, event, general, stamp, sync_timer, delay_timer, filter_answer, set_state}
-use Rattle.log.specs.declared.Logged.{Logged}
-use Rattle.log.specs.declared.Next.{Next}
-use Rattle.log.specs.Fields.{front_of}
+use Rattle.event_log.specs.declared.Logged.{Logged}
+use Rattle.event_log.specs.declared.Next.{Next}
+use Rattle.event_log.specs.Fields.{front_of}
 
 -- the event that a field f holds, with its message's bytes
 abbrev pub told : List ℕ → Logged → Event

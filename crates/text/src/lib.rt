@@ -1,5 +1,7 @@
 // Text written into a lent buffer: bytes, and numbers as digits. Each function is told the place to write at and answers the place
 // behind what it wrote. Where the buffer ends nothing more is written, so none demands anything of its caller.
+#![tactic(auto)]
+
 ghost use Rattle.std.specs.Prelude.{◌%◌, ◌+◌, ◌≤◌, ◌<◌, ◌≡◌, [], ◌∷◌, length};
 ghost use Rattle.std.proofs.lemmas.List.Edits.{sets};
 ghost use Rattle.text.specs.Page.{Wrote};

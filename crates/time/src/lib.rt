@@ -1,6 +1,8 @@
 // Two-word time (document 01, 'Units'): one unit is 2^-32 ns. Sums are exact or refused, never
 // wrapped. Every public function answers every input, and promises one equation with a definition
 // of specs/, where meanings stand in ℤ.
+#![tactic(auto)]
+
 ghost use Rattle.std.specs.Prelude.{◌≡◌, ◌+◌, ◌*◌, ◌/◌, ◌^◌, ◌≤◌, ◌+ℤ◌, ◌-ℤ◌};
 ghost use Rattle.std.proofs.Math.IntN.{sub_ℕ};
 ghost use Rattle.time.specs.Units.{spelled, time, in_time, time_of, time_of_words, duration, duration_of, time_of_wire, wire_of, correction, half_of};
@@ -11,49 +13,49 @@ use words::Wide;
 
 // A time: 0 to 2^127 - 1 units, the high word first. Words with the top bit set spell a number that
 // is no time; is_time tells, and each sum of them answers by the number they spell.
-#[derive(Drop)]
+#[derive(Clone, Copy)]
 pub struct Time {
     pub hi: u64,
     pub lo: u64,
 }
 
 // A duration: -2^127 to 2^127 - 1 units, the high word first, in two's complement.
-#[derive(Drop)]
+#[derive(Clone, Copy)]
 pub struct Duration {
     pub hi: u64,
     pub lo: u64,
 }
 
 // A timestamp of the wire. Its seconds have 48 bits there.
-#[derive(Drop)]
+#[derive(Clone, Copy)]
 pub struct WireTimestamp {
     pub seconds: u64,
     pub nanos: u32,
 }
 
 // What a sum of a time answers: Out where no time has so many units.
-#[derive(Drop)]
+#[derive(Clone, Copy)]
 pub enum TimeAnswer {
     Value(Time),
     Out,
 }
 
 // What a difference answers: Out where no duration has so many units.
-#[derive(Drop)]
+#[derive(Clone, Copy)]
 pub enum DurationAnswer {
     Value(Duration),
     Out,
 }
 
 // Two words as a time, or NoTime where the top bit is set.
-#[derive(Drop)]
+#[derive(Clone, Copy)]
 pub enum WordsAnswer {
     Value(Time),
     NoTime,
 }
 
 // A timestamp as a time, or Seconds where its seconds have no place in 48 bits.
-#[derive(Drop)]
+#[derive(Clone, Copy)]
 pub enum ReadAnswer {
     Value(Time),
     Seconds,
@@ -61,7 +63,7 @@ pub enum ReadAnswer {
 
 // What is sent of a time: its timestamp, and what of the fraction goes into the correction field, in
 // 2^-16 ns; Out where the seconds have no place in 48 bits.
-#[derive(Drop)]
+#[derive(Clone, Copy)]
 pub enum WireAnswer {
     Value {
         timestamp: WireTimestamp,

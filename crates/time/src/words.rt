@@ -4,14 +4,14 @@ ghost use Rattle.std.specs.Prelude.{◌≡◌, ◌+◌, ◌*◌, ◌^◌, ◌≤
 ghost use Rattle.time.specs.Units.{spelled};
 
 // One digit of a result, and what it carries to the next digit or borrows from it: 0 or 1.
-#[derive(Drop)]
+#[derive(Clone, Copy)]
 struct Digit {
     value: u64,
     carry: u64,
 }
 
 // Two digits of a result, the high one first, and what it carries above them or borrows there: 0 or 1.
-#[derive(Drop)]
+#[derive(Clone, Copy)]
 pub(crate) struct Wide {
     pub(crate) hi: u64,
     pub(crate) lo: u64,

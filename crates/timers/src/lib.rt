@@ -1,10 +1,12 @@
 // The timers, in nanoseconds (document 01, 'Units'). A log interval is a byte in two's complement, as
 // on the wire.
+#![tactic(auto)]
+
 ghost use Rattle.std.specs.Prelude.{◌≡◌, ◌+◌, ◌*◌, ◌^◌, ◌≤◌, ◌<◌, true, pos, nat_abs, ◌-ℤ◌};
 ghost use Rattle.timers.specs.Timers.{interval, in_interval, in_draw, odd_of, to_nearest, sync_timer_of, delay_timer_of};
 
 // A timer, or what is out of its limits: the log interval, or else the draw.
-#[derive(Drop)]
+#[derive(Clone, Copy)]
 pub enum TimerAnswer {
     Value(u64),
     Interval,

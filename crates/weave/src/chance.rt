@@ -1,7 +1,7 @@
 // Numbers that look thrown and are the same in every run: multiply with carry, 32 bits a throw.
 ghost use Rattle.std.specs.Prelude.{◌≡◌, ◌+◌, ◌*◌, ◌/◌, ◌%◌, ◌<◌};
 
-#[derive(Drop)]
+#[derive(Clone, Copy)]
 pub struct Chance {
     pub state: u64,
 }

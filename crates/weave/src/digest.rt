@@ -143,7 +143,7 @@ fn fold_actions(d: u64, actions: [Todo; 2]) -> u64 {
 
 // An answer's number, what it measures and a digest of that, and a digest of all of it but its record, which is compared at the
 // end of a block.
-#[derive(Drop)]
+#[derive(Clone, Copy)]
 pub struct Told {
     pub number: u8,
     pub kind: u8,

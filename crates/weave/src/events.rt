@@ -4,7 +4,7 @@ ghost use Rattle.std.specs.Prelude.{◌≤◌};
 use crate::chance::Chance;
 
 // What an event is a part of. An exchange's last event measures; no other does.
-#[derive(Drop)]
+#[derive(Clone, Copy)]
 pub enum Part {
     Foreign,
     Filter,
@@ -17,7 +17,7 @@ pub enum Part {
 
 // Up to 19 the message in that row of says is heard, at 20 our request is due, at 21 to 23 a DelayReq, a PDelayReq or a PDelayResp
 // of ours has left, and at 24 the filter answers. Times, corrections and the rest are drawn from seed, so that an event is the same in both runs.
-#[derive(Drop)]
+#[derive(Clone, Copy)]
 pub struct Happening {
     pub what: u8,
     pub part: Part,

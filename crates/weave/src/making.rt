@@ -43,7 +43,7 @@ fn peer_plan(chance: Chance) -> u64 {
     n * 2 + 3 + asked.below(2)
 }
 
-#[derive(Drop)]
+#[derive(Clone, Copy)]
 pub struct Block {
     pub events: [Happening; 24],
     pub count: usize,
@@ -196,7 +196,7 @@ impl Block {
 }
 
 // A block, and where in it the request and then all else begin.
-#[derive(Drop)]
+#[derive(Clone, Copy)]
 pub struct Made {
     pub block: Block,
     pub syncs: usize,

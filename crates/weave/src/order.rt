@@ -5,7 +5,7 @@ use crate::chance::Chance;
 use crate::events::Part;
 use crate::making::Block;
 
-#[derive(Drop)]
+#[derive(Clone, Copy)]
 pub struct Row {
     pub places: [usize; 24],
     pub count: usize,
@@ -69,7 +69,7 @@ impl Row {
 }
 
 // Which place comes next, and which after it in each of the three runs.
-#[derive(Drop)]
+#[derive(Clone, Copy)]
 pub struct Weaving {
     pub chance: Chance,
     pub place: usize,
@@ -142,7 +142,7 @@ pub(crate) fn woven(syncs: usize, rest: usize, count: usize, chance: Chance) -> 
 }
 
 // The places that are out, and those that wait for the end of their exchange.
-#[derive(Drop)]
+#[derive(Clone, Copy)]
 pub struct Gathering {
     pub out: Row,
     pub sync: Row,

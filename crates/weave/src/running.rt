@@ -10,7 +10,7 @@ use port::Running;
 use record::Port;
 
 // How much there was of each kind, and how much was measured.
-#[derive(Drop)]
+#[derive(Clone, Copy)]
 pub struct Counts {
     pub syncs: u64,
     pub requests: u64,
@@ -22,7 +22,7 @@ pub struct Counts {
 
 // What a run leaves beside its record: a digest for each event at the event's place, one of the measurements in their order, and
 // how many events were not answered, or did not measure, as they should.
-#[derive(Drop)]
+#[derive(Clone, Copy)]
 pub struct Seen {
     pub digests: [u64; 24],
     pub measured: u64,
@@ -30,7 +30,7 @@ pub struct Seen {
     pub counts: Counts,
 }
 
-#[derive(Drop)]
+#[derive(Clone, Copy)]
 pub struct Ran {
     pub port: Port,
     pub seen: Seen,

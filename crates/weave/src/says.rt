@@ -4,7 +4,7 @@ use wire::Identity;
 
 // A message, but for its times and its correction. Type 11 is written as a Sync and then given its number. So many bytes of it
 // are lent to the port.
-#[derive(Drop)]
+#[derive(Clone, Copy)]
 pub struct Said {
     pub number: u8,
     pub flags: u16,

@@ -11,7 +11,7 @@ use Rattle.wire.specs.declared.Body.{Body}
 use Rattle.wire.specs.declared.Body.TheVariants as B
 use Rattle.wire.specs.declared.Rest.{Rest}
 use Rattle.wire.specs.declared.Rest.TheVariants as Q
-use Rattle.bytes.specs.Bytes.{Place, Entry, ◌for◌, ◌≔◌, field_at, bytes_of}
+use Rattle.octets.specs.Bytes.{Place, Entry, ◌for◌, ◌≔◌, field_at, bytes_of}
 
 -- ---- the header (13.3): each field's first byte and width
 

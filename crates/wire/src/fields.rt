@@ -1,6 +1,6 @@
 // Timestamps and port identities, each a field of ten bytes from a place on: read and written.
 ghost use Rattle.std.specs.Prelude.{◌≡◌, ◌+◌, ◌≤◌, length};
-ghost use Rattle.bytes.specs.Bytes.{puts};
+ghost use Rattle.octets.specs.Bytes.{puts};
 ghost use Rattle.wire.specs.Layout.{timestamp_at, identity_at, timestamp_entries, identity_entries};
 
 use crate::Identity;
@@ -11,8 +11,8 @@ pub fn get_timestamp(s: &[u8], at: usize) -> WireTimestamp
     ensures { result ≡ timestamp_at at s.now }
 {
     WireTimestamp {
-        seconds: bytes::get(s, at, 6),
-        nanos: bytes::get_u32(s, at + 6),
+        seconds: octets::get(s, at, 6),
+        nanos: octets::get_u32(s, at + 6),
     }
 }
 
@@ -21,8 +21,8 @@ pub fn get_identity(s: &[u8], at: usize) -> Identity
     ensures { result ≡ identity_at at s.now }
 {
     Identity {
-        clock: bytes::get_u64(s, at),
-        port: bytes::get_u16(s, at + 8),
+        clock: octets::get_u64(s, at),
+        port: octets::get_u16(s, at + 8),
     }
 }
 
@@ -30,14 +30,14 @@ pub fn put_timestamp(buf: &mut [u8], at: usize, w: WireTimestamp)
     requires { at + 10 ≤ length buf.old }
     ensures { buf.new ≡ puts (timestamp_entries at w) buf.old }
 {
-    bytes::put(buf, at, 6, w.seconds);
-    bytes::put(buf, at + 6, 4, w.nanos as u64);
+    octets::put(buf, at, 6, w.seconds);
+    octets::put(buf, at + 6, 4, w.nanos as u64);
 }
 
 pub fn put_identity(buf: &mut [u8], at: usize, who: Identity)
     requires { at + 10 ≤ length buf.old }
     ensures { buf.new ≡ puts (identity_entries at who) buf.old }
 {
-    bytes::put(buf, at, 8, who.clock);
-    bytes::put_u16(buf, at + 8, who.port);
+    octets::put(buf, at, 8, who.clock);
+    octets::put_u16(buf, at + 8, who.port);
 }

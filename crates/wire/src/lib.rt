@@ -1,5 +1,6 @@
 // PTP messages (document 01, 'Wire form'; IEEE 1588-2019, clause 13) as values, and the table of their types.
 // What each byte of one means stands in specs/Layout. Crate reading reads them, crate writing writes them.
+#![tactic(auto)]
 
 pub mod fields;
 mod types;
@@ -7,7 +8,7 @@ mod types;
 use time::WireTimestamp;
 
 // A port identity: the clock's eight bytes as a number, and the port's number.
-#[derive(Drop)]
+#[derive(Clone, Copy)]
 pub struct Identity {
     pub clock: u64,
     pub port: u16,
@@ -15,7 +16,7 @@ pub struct Identity {
 
 // Every field of a header that is read. Numbers that share a byte have four bits there; the correction
 // is the 64-bit word of the wire, the log interval its byte, both in two's complement.
-#[derive(Drop)]
+#[derive(Clone, Copy)]
 pub struct Header {
     pub major_sdo: u8,
     pub kind: u8,
@@ -32,7 +33,7 @@ pub struct Header {
 }
 
 // The messages of document 01's table.
-#[derive(Drop)]
+#[derive(Clone, Copy)]
 pub enum MessageType {
     Sync,
     DelayReq,
@@ -44,7 +45,7 @@ pub enum MessageType {
 }
 
 // What a type number stands for: a message of the table, one that is the host's, or none.
-#[derive(Drop)]
+#[derive(Clone, Copy)]
 pub enum Kind {
     Table(MessageType),
     Host,
@@ -52,7 +53,7 @@ pub enum Kind {
 }
 
 // What lies behind the header.
-#[derive(Drop)]
+#[derive(Clone, Copy)]
 pub enum Body {
     Sync {
         origin: WireTimestamp,
@@ -81,7 +82,7 @@ pub enum Body {
 }
 
 // What lies behind the timestamp that each body begins with.
-#[derive(Drop)]
+#[derive(Clone, Copy)]
 pub enum Rest {
     Nothing,
     Reserved,

@@ -8,9 +8,9 @@ use lib.Seq.{take_at, drop_at, drop-drop}
 use borrow.Rule.Slice.PartMut.{put_mid, mid_of}
 use Rattle.wire.specs.declared.Header.{Header}
 use Rattle.wire.specs.declared.Body.{Body}
-use Rattle.bytes.specs.Bytes.{bytes_of, puts, size_of}
+use Rattle.octets.specs.Bytes.{bytes_of, puts, size_of}
 use Rattle.wire.specs.Layout.{row, type_of, header_entries, body_entries, message_bytes}
-use Rattle.wire.specs.LayoutLaws.{length_header, body_size, body_written, head_then_body}
+use Rattle.wire.proofs.LayoutLaws.{length_header, body_size, body_written, head_then_body}
 use Rattle.writing.specs.LentLaws.{lent_part, put_part}
 
 -- xs is a head hd of n bytes and what lay behind them in l; the part lent is what lay there

@@ -7,7 +7,7 @@ use lib.Dec.{ltb}
 use borrow.Author.Tests.{ltb-true}
 use Rattle.wire.specs.declared.Header.{Header}
 use Rattle.wire.specs.declared.Body.{Body}
-use Rattle.bytes.specs.Bytes.{Entry, roomy}
+use Rattle.octets.specs.Bytes.{Entry, roomy}
 use Rattle.wire.specs.Layout.{row, type_of, body, header_entries, body_entries, message_entries, timestamp_of}
 use Rattle.writing.specs.Writing.{together, fits_of, is_time}
 use Rattle.time.specs.Units.{time_of_wire}

@@ -9,7 +9,7 @@ use Rattle.wire.specs.declared.Body.{Body}
 use Rattle.wire.specs.declared.Body.TheVariants as B
 use Rattle.reading.specs.declared.Reading.TheVariants as G
 use Rattle.writing.specs.declared.Written.TheVariants as W
-use Rattle.bytes.specs.Bytes.{number, spell, bytes_of, roomy}
+use Rattle.octets.specs.Bytes.{number, spell, bytes_of, roomy}
 use Rattle.wire.specs.Layout.{header_entries, header_of, identity_entries, identity_at, timestamp_entries, timestamp_at, body_entries, body_of, kind_of, message_entries, message_bytes}
 use Rattle.reading.specs.Reading.{row4, row5, message_of, read_of}
 use Rattle.writing.specs.Writing.{together, fits_of, write_of}

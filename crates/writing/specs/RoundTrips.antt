@@ -20,16 +20,16 @@ use Rattle.wire.specs.declared.Body.{Body}
 use Rattle.wire.specs.declared.Body.TheVariants as B
 use Rattle.reading.specs.declared.Reading.TheVariants as G
 use Rattle.writing.specs.declared.Written.TheVariants as W
-use Rattle.bytes.specs.Bytes.{Entry, number, spell, bytes_of, size_of, tiles, field_at, Bytes}
+use Rattle.octets.specs.Bytes.{Entry, number, spell, bytes_of, size_of, tiles, field_at, Bytes}
 use Rattle.wire.specs.Layout.{header_entries, header_of, timestamp_entries, timestamp_at, identity_entries, identity_at, body_entries, body_of, body, row, kind_of, type_of, timestamp_of, message_length, message_entries, message_bytes}
 use Rattle.reading.specs.Unread.{unread, unread_at}
 use Rattle.reading.specs.Reading.{row4, row5, read_of, short_for, reserved, kind_in}
 use Rattle.writing.specs.Writing.{fits_of, write_of, left_of, is_time}
-use Rattle.bytes.specs.BytesLaws.{both, Fits, Reads, reads_parts, reads_back, number_lt, length-bytes_of, length-spell, spell-number}
-use Rattle.wire.specs.LayoutLaws.{message_tiles, length_message, number_kind, row_bounds, body_size}
+use Rattle.octets.proofs.BytesLaws.{both, Fits, Reads, reads_parts, reads_back, number_lt, length-bytes_of, length-spell, spell-number}
+use Rattle.wire.proofs.LayoutLaws.{message_tiles, length_message, number_kind, row_bounds, body_size}
 use Rattle.reading.specs.ReadingLaws.{row4_passed, row5_passed, IsMessage, message_when, message_is}
 use Rattle.writing.specs.WritingLaws.{Fitting, fits_is, fits_when, write_when, write_is, left_when, time_given}
-use Rattle.reading.specs.UnreadLaws.{read_at_is}
+use Rattle.reading.proofs.UnreadLaws.{read_at_is}
 
 -- ---- tables that stand in l read back
 

@@ -7,7 +7,7 @@ use Rattle.wire.specs.declared.Header.{Header}
 use Rattle.wire.specs.declared.Body.{Body}
 use Rattle.writing.specs.declared.Written.{Written}
 use Rattle.writing.specs.declared.Written.TheVariants as W
-use Rattle.bytes.specs.Bytes.{roomy}
+use Rattle.octets.specs.Bytes.{roomy}
 use Rattle.wire.specs.Layout.{row, type_of, message_entries, message_bytes, timestamp_of}
 
 -- header and body go together: version 2, the body's type and its length

@@ -1,6 +1,6 @@
 // The body, written into the part of the packet that lies behind its header.
 ghost use Rattle.std.specs.Prelude.{◌≡◌, ◌≤◌, length};
-ghost use Rattle.bytes.specs.Bytes.{puts, size_of};
+ghost use Rattle.octets.specs.Bytes.{puts, size_of};
 ghost use Rattle.wire.specs.Layout.{body_entries};
 
 use wire::{Body, Rest, fields};
@@ -14,7 +14,7 @@ pub(crate) fn write_body(part: &mut [u8], b: Body)
     let rest = b.rest();
     match rest {
         Rest::Nothing => {}
-        Rest::Reserved => bytes::put(part, 10, 10, 0),
+        Rest::Reserved => octets::put(part, 10, 10, 0),
         Rest::Requester(who) => fields::put_identity(part, 10, who),
     }
 }

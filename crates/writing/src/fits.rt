@@ -1,7 +1,7 @@
 // Whether a header and a body make a message, each number with room in its place.
 ghost use Rattle.std.specs.Prelude.{◌≡◌, ◌+◌, ◌&&◌, ◌++◌};
 ghost use Rattle.time.specs.Units.{time_of_wire};
-ghost use Rattle.bytes.specs.Bytes.{roomy};
+ghost use Rattle.octets.specs.Bytes.{roomy};
 ghost use Rattle.wire.specs.Layout.{body, timestamp_entries, identity_entries, body_entries, timestamp_of};
 ghost use Rattle.writing.specs.Writing.{is_time, fits_of};
 

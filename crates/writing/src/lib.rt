@@ -1,4 +1,6 @@
 // Any header and body written as a message, with one answer.
+#![tactic(auto)]
+
 ghost use Rattle.std.specs.Prelude.{◌≡◌, ◌≤◌, true, ◌++◌, length, drop};
 ghost use Rattle.wire.specs.Layout.{row, type_of, message_bytes};
 ghost use Rattle.writing.specs.Writing.{fits_of, write_of, left_of};
@@ -11,7 +13,7 @@ use wire::{Body, Header};
 
 // What became of a message to be written: its length, or the buffer is too short for it, or header and
 // body do not go together or do not fit their places. Only the first writes anything.
-#[derive(Drop)]
+#[derive(Clone, Copy)]
 pub enum Written {
     Length(usize),
     Short,
@@ -34,7 +36,7 @@ pub fn write(packet: &mut [u8], header: Header, body: Body) -> Written
 {
     if fits::fits(header, body) {
         let t = body.message_type();
-        let n = bytes::size(t.length());
+        let n = octets::size(t.length());
         if packet.len() < n {
             return Written::Short;
         }

@@ -1,4 +1,4 @@
-use Rattle.fitness.specs.FitLaws.{unfit_parts}
+use Rattle.fitness.proofs.FitLaws.{unfit_parts}
 use mathlib.Core.Path.{sym}
 use borrow.Author.Rules.{rules}
 use Rattle.fitness.proofs.is_unfit.Statement.{statement}

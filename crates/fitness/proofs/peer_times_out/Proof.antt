@@ -1,4 +1,4 @@
-use Rattle.fitness.specs.FitLaws.{out_joined}
+use Rattle.fitness.proofs.FitLaws.{out_joined}
 use borrow.Author.Rules.{rules}
 use Rattle.fitness.proofs.peer_times_out.Statement.{statement}
 use Rattle.fitness.proofs.peer_times_out.Tie as tie

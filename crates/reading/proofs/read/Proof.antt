@@ -6,7 +6,7 @@ use lib.Dec.{ltb}
 use lib.ListN.{length}
 use native.Mathlib.Omega.{arith}
 use Rattle.reading.specs.declared.Reading.TheVariants.{Malformed}
-use Rattle.bytes.specs.BytesLaws.{neither}
+use Rattle.octets.proofs.BytesLaws.{neither}
 use Rattle.wire.specs.declared.Header.{Header}
 use Rattle.wire.specs.Layout.{header_of, kind_of, row}
 use Rattle.reading.specs.Reading.{read_of, row4, row5, message_of}

@@ -1,7 +1,7 @@
 use mathlib.Core.Path.{refl}
 use borrow.Author.Rules.{rules}
 use native.Mathlib.Omega.{arith}
-use Rattle.recording.specs.RecordingLaws.{appends, appends_short, length_config, config_then}
+use Rattle.recording.proofs.RecordingLaws.{appends, appends_short, length_config, config_then}
 use Rattle.recording.proofs.record_config.Statement.{statement}
 use Rattle.recording.proofs.record_config.Tie as tie
 

@@ -1,8 +1,8 @@
 use mathlib.Core.Path.{refl}
 use borrow.Author.Rules.{rules}
 use native.Mathlib.Omega.{arith}
-use Rattle.bytes.specs.BytesLaws.{length-spell}
-use Rattle.recording.specs.RecordingLaws.{appends, appends_short, length-delay_timer, length_draw, field_then}
+use Rattle.octets.proofs.BytesLaws.{length-spell}
+use Rattle.recording.proofs.RecordingLaws.{appends, appends_short, length-delay_timer, length_draw, field_then}
 use Rattle.recording.specs.Recording.{event_bytes}
 use Rattle.recording.proofs.record_delay_timer.Statement.{statement}
 use Rattle.recording.proofs.record_delay_timer.Tie as tie

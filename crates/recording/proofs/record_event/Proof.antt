@@ -1,7 +1,7 @@
 use borrow.Author.Rules.{rules}
 use native.Mathlib.Omega.{arith}
 use Rattle.text.specs.PageLaws.{wrote_then}
-use Rattle.recording.specs.RecordingLaws.{appends, appends_short, appends_unfit, short_message, long_message, length-event, length_timed, field_then}
+use Rattle.recording.proofs.RecordingLaws.{appends, appends_short, appends_unfit, short_message, long_message, length-event, length_timed, field_then}
 use Rattle.recording.specs.Recording.{event_bytes}
 use Rattle.recording.proofs.record_event.Statement.{statement}
 use Rattle.recording.proofs.record_event.Tie as tie

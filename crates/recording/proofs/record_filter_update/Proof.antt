@@ -2,7 +2,7 @@ use mathlib.Core.Path.{refl}
 use borrow.Author.Rules.{rules}
 use native.Mathlib.Omega.{arith}
 use Rattle.text.specs.PageLaws.{wrote_then}
-use Rattle.recording.specs.RecordingLaws.{appends, appends_short, length_filter, length_filter_value, mean_small, next_small, field_then}
+use Rattle.recording.proofs.RecordingLaws.{appends, appends_short, length_filter, length_filter_value, mean_small, next_small, field_then}
 use Rattle.recording.specs.Recording.{event_bytes}
 use Rattle.recording.proofs.record_filter_update.Statement.{statement}
 use Rattle.recording.proofs.record_filter_update.Tie as tie

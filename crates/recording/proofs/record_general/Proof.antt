@@ -1,6 +1,6 @@
 use borrow.Author.Rules.{rules}
 use native.Mathlib.Omega.{arith}
-use Rattle.recording.specs.RecordingLaws.{appends, appends_short, appends_unfit, short_message, long_message, length-general, length_field, field_then}
+use Rattle.recording.proofs.RecordingLaws.{appends, appends_short, appends_unfit, short_message, long_message, length-general, length_field, field_then}
 use Rattle.recording.specs.Recording.{event_bytes}
 use Rattle.recording.proofs.record_general.Statement.{statement}
 use Rattle.recording.proofs.record_general.Tie as tie

@@ -3,7 +3,7 @@ use Prim.Native.Nat.{ℕ, ◌+◌}
 use borrow.Author.Rules.{rules}
 use native.Mathlib.Omega.{arith}
 use Rattle.text.specs.PageLaws.{wrote_then}
-use Rattle.recording.specs.RecordingLaws.{appends, appends_short, length-stamp, length_timed, field_then, context_small}
+use Rattle.recording.proofs.RecordingLaws.{appends, appends_short, length-stamp, length_timed, field_then, context_small}
 use Rattle.recording.specs.Recording.{event_bytes}
 use Rattle.recording.proofs.record_stamp.Statement.{statement}
 use Rattle.recording.proofs.record_stamp.Tie as tie

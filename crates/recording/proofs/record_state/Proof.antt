@@ -2,7 +2,7 @@ use mathlib.Core.Path.{refl, sym, ◌∙◌, ap}
 use Prim.Native.Nat.{ℕ, ◌+◌}
 use borrow.Author.Rules.{rules}
 use native.Mathlib.Omega.{arith}
-use Rattle.recording.specs.RecordingLaws.{appends, appends_short, length-set_state, length_field_of, state_small, field_then}
+use Rattle.recording.proofs.RecordingLaws.{appends, appends_short, length-set_state, length_field_of, state_small, field_then}
 use Rattle.recording.specs.Recording.{event_bytes}
 use Rattle.recording.proofs.record_state.Statement.{statement}
 use Rattle.recording.proofs.record_state.Tie as tie

@@ -2,7 +2,7 @@ use mathlib.Core.Path.{refl}
 use borrow.Author.Rules.{rules}
 use native.Mathlib.Omega.{arith}
 use Rattle.text.specs.PageLaws.{wrote_as}
-use Rattle.recording.specs.RecordingLaws.{appends, appends_short, length-sync_timer, field_empty}
+use Rattle.recording.proofs.RecordingLaws.{appends, appends_short, length-sync_timer, field_empty}
 use Rattle.recording.specs.Recording.{event_bytes}
 use Rattle.recording.proofs.record_sync_timer.Statement.{statement}
 use Rattle.recording.proofs.record_sync_timer.Tie as tie

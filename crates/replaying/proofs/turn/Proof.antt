@@ -1,5 +1,5 @@
 use Rattle.std.proofs.Common.{◌≡◌, ◌-◌, length, sym, refl, ◌∙◌, arith, rules}
-use Rattle.replaying.specs.TurnLaws.{Going, going_start, going_place, going_read, going_same, going_on, one_ahead, going_stop, going_full, stop_leaves, full_leaves}
+use Rattle.replaying.proofs.TurnLaws.{Going, going_start, going_place, going_read, going_same, going_on, one_ahead, going_stop, going_full, stop_leaves, full_leaves}
 use Rattle.replaying.proofs.turn.Statement.{statement}
 use Rattle.replaying.proofs.turn.Tie as tie
 use Rattle.replaying.proofs.turn.Reads as reads

@@ -2,7 +2,7 @@ use Prim.Native.Nat.{◌+◌, ◌^◌}
 use mathlib.Core.Path.{sym, ap, ◌∙◌}
 use native.Mathlib.Omega.{arith}
 use Rattle.sent.specs.Messages.{correction_of}
-use Rattle.sent.specs.Laws.{correction_up, correction_down, correction_far, less_low, less_high}
+use Rattle.sent.proofs.Laws.{correction_up, correction_down, correction_far, less_low, less_high}
 use borrow.Author.Rules.{rules}
 use Rattle.sent.proofs.less_fraction.Statement.{statement}
 use Rattle.sent.proofs.less_fraction.Tie as tie

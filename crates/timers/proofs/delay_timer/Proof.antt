@@ -5,7 +5,7 @@ use mathlib.Core.Bool.{true}
 use borrow.Author.Tests.{ltb-true}
 use Rattle.timers.specs.declared.TimerAnswer.TheVariants.{Value}
 use Rattle.timers.specs.Timers.{interval, in_interval, in_draw, odd_of, to_nearest, delay_timer}
-use Rattle.timers.specs.TimerLaws.{in_draw_lem, delay_in, delay_out, draw_out}
+use Rattle.timers.proofs.TimerLaws.{in_draw_lem, delay_in, delay_out, draw_out}
 use borrow.Author.Rules.{rules}
 use Rattle.timers.proofs.delay_timer.Statement.{statement}
 use Rattle.timers.proofs.delay_timer.Tie as tie

@@ -1,6 +1,6 @@
 -- `timer::is_draw`: 2 ^ 52 - 1 is the last draw.
 use mathlib.Core.Path.{sym}
-use Rattle.timers.specs.TimerLaws.{in_draw_lem}
+use Rattle.timers.proofs.TimerLaws.{in_draw_lem}
 use Rattle.timers.proofs.is_draw.Statement.{statement}
 use Rattle.timers.proofs.is_draw.Tie as tie
 

@@ -6,7 +6,7 @@ use native.Mathlib.Decide.{dec_lt}
 use borrow.Author.Tests.{le-leb, lt-leb}
 use lib.Dec.{leb}
 use Rattle.timers.specs.Timers.{in_interval}
-use Rattle.timers.specs.TimerLaws.{interval_low, interval_high, in_low, in_high}
+use Rattle.timers.proofs.TimerLaws.{interval_low, interval_high, in_low, in_high}
 use Rattle.timers.proofs.is_interval.Statement.{statement}
 use Rattle.timers.proofs.is_interval.Tie as tie
 

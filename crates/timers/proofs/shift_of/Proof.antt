@@ -5,7 +5,7 @@ use mathlib.Core.Bool.{true}
 use native.Mathlib.Omega.{arith}
 use lib.IntN.{ℤ, pos, nat_abs, ◌-ℤ◌}
 use Rattle.timers.specs.Timers.{interval, in_interval}
-use Rattle.timers.specs.TimerLaws.{interval_low, interval_high, low_end, high_end, less_52}
+use Rattle.timers.proofs.TimerLaws.{interval_low, interval_high, low_end, high_end, less_52}
 use borrow.Author.Rules.{rules}
 use Rattle.timers.proofs.shift_of.Statement.{statement}
 use Rattle.timers.proofs.shift_of.Tie as tie

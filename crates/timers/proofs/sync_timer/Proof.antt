@@ -9,7 +9,7 @@ use lib.IntN.{ℤ, pos, negsuc, nat_abs, ◌-ℤ◌}
 use lib.Pow.{pow-add, shl_exact}
 use Rattle.timers.specs.declared.TimerAnswer.TheVariants.{Value}
 use Rattle.timers.specs.Timers.{interval, in_interval, sync_timer}
-use Rattle.timers.specs.TimerLaws.{sync_in, sync_out, low_end, high_end, less_52, shifted}
+use Rattle.timers.proofs.TimerLaws.{sync_in, sync_out, low_end, high_end, less_52, shifted}
 use borrow.Author.Rules.{rules}
 use Rattle.timers.proofs.sync_timer.Statement.{statement}
 use Rattle.timers.proofs.sync_timer.Tie as tie

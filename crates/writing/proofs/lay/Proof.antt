@@ -3,11 +3,11 @@ use mathlib.Core.Path.{◌∙◌, ap}
 use mathlib.Core.List.{◌++◌}
 use lib.ListN.{drop}
 use Rattle.wire.specs.declared.MessageType.{MessageType}
-use Rattle.bytes.specs.Bytes.{bytes_of}
+use Rattle.octets.specs.Bytes.{bytes_of}
 use Rattle.writing.proofs.Lent.{lent_length, laid}
 use native.Mathlib.Omega.{arith}
 use Rattle.wire.specs.Layout.{row, type_of, header_entries}
-use Rattle.wire.specs.LayoutLaws.{length_header, body_size, row_bounds}
+use Rattle.wire.proofs.LayoutLaws.{length_header, body_size, row_bounds}
 use Rattle.writing.specs.WritingLaws.{fits_is}
 use borrow.Author.Rules.{rules}
 use Rattle.writing.proofs.lay.Statement.{statement}

@@ -1,4 +1,4 @@
-use Rattle.record.specs.AnswersLaws.{two_actions}
+use Rattle.record.proofs.AnswersLaws.{two_actions}
 use Rattle.handling.specs.Handling.{handed_on}
 use Rattle.handling.proofs.Handled.sending_timed.Statement.{statement}
 use Rattle.handling.proofs.Handled.sending_timed.Tie as tie

@@ -1,4 +1,4 @@
-use Rattle.record.specs.AnswersLaws.{one_action}
+use Rattle.record.proofs.AnswersLaws.{one_action}
 use Rattle.handling.specs.Handling.{handed_on}
 use Rattle.handling.proofs.Handled.timed.Statement.{statement}
 use Rattle.handling.proofs.Handled.timed.Tie as tie

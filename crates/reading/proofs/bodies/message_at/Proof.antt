@@ -3,7 +3,7 @@ use mathlib.Core.Path.{sym, ◌∙◌, ap}
 use borrow.Author.Rules.{rules}
 use borrow.Author.Tests.{lt-ltb, le-ltb}
 use Rattle.time.specs.Units.{time_of_wire}
-use Rattle.wire.specs.LayoutLaws.{row_bounds}
+use Rattle.wire.proofs.LayoutLaws.{row_bounds}
 use Rattle.reading.specs.Reading.{message_of}
 use Rattle.reading.proofs.bodies.message_at.Statement.{statement}
 use Rattle.reading.proofs.bodies.message_at.Tie as tie

@@ -1,6 +1,6 @@
 use borrow.Author.Rules.{rules}
 use lib.ListN.{length-append}
-use Rattle.bytes.specs.BytesLaws.{length-spell}
+use Rattle.octets.proofs.BytesLaws.{length-spell}
 use Rattle.recording.specs.Recording.{context_bytes}
 use Rattle.recording.proofs.laying.context_size.Statement.{statement}
 use Rattle.recording.proofs.laying.context_size.Tie as tie

@@ -2,7 +2,7 @@ use mathlib.Core.Path.{sym, ap}
 use borrow.Author.Rules.{rules}
 use Rattle.text.specs.PageLaws.{wrote_as, wrote_nothing}
 use Rattle.recording.specs.Recording.{mean_bytes}
-use Rattle.recording.specs.RecordingLaws.{field_then, length_words}
+use Rattle.recording.proofs.RecordingLaws.{field_then, length_words}
 use Rattle.recording.proofs.laying.mean.Statement.{statement}
 use Rattle.recording.proofs.laying.mean.Tie as tie
 

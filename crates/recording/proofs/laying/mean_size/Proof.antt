@@ -1,7 +1,7 @@
 use mathlib.Core.Path.{sym, ◌∙◌, ap}
 use borrow.Author.Rules.{rules}
 use lib.ListN.{length}
-use Rattle.recording.specs.RecordingLaws.{length_mean}
+use Rattle.recording.proofs.RecordingLaws.{length_mean}
 use Rattle.recording.specs.Recording.{mean_bytes}
 use Rattle.recording.proofs.laying.mean_size.Statement.{statement}
 use Rattle.recording.proofs.laying.mean_size.Tie as tie

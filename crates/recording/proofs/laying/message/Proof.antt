@@ -1,6 +1,6 @@
 use mathlib.Core.Path.{refl}
 use borrow.Author.Rules.{rules}
-use Rattle.recording.specs.RecordingLaws.{field_then}
+use Rattle.recording.proofs.RecordingLaws.{field_then}
 use Rattle.recording.proofs.laying.message.Statement.{statement}
 use Rattle.recording.proofs.laying.message.Tie as tie
 

@@ -1,9 +1,9 @@
 use mathlib.Core.Path.{sym, ap}
 use borrow.Author.Rules.{rules}
 use Rattle.text.specs.PageLaws.{wrote_as, wrote_nothing}
-use Rattle.bytes.specs.BytesLaws.{length-spell}
+use Rattle.octets.proofs.BytesLaws.{length-spell}
 use Rattle.recording.specs.Recording.{next_bytes}
-use Rattle.recording.specs.RecordingLaws.{field_then}
+use Rattle.recording.proofs.RecordingLaws.{field_then}
 use Rattle.recording.proofs.laying.next.Statement.{statement}
 use Rattle.recording.proofs.laying.next.Tie as tie
 

@@ -1,7 +1,7 @@
 use mathlib.Core.Path.{sym, ◌∙◌, ap}
 use borrow.Author.Rules.{rules}
 use lib.ListN.{length}
-use Rattle.recording.specs.RecordingLaws.{length_next}
+use Rattle.recording.proofs.RecordingLaws.{length_next}
 use Rattle.recording.specs.Recording.{next_bytes}
 use Rattle.recording.proofs.laying.next_size.Statement.{statement}
 use Rattle.recording.proofs.laying.next_size.Tie as tie

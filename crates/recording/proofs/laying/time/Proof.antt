@@ -1,5 +1,5 @@
 use borrow.Author.Rules.{rules}
-use Rattle.recording.specs.RecordingLaws.{field_then, length_words}
+use Rattle.recording.proofs.RecordingLaws.{field_then, length_words}
 use Rattle.recording.proofs.laying.time.Statement.{statement}
 use Rattle.recording.proofs.laying.time.Tie as tie
 

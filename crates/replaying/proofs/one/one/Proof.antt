@@ -7,7 +7,7 @@ use Rattle.replaying.proofs.one.one.Lts as lts
 use Rattle.lines.proofs.bad_line.Reads as bad-line-reads
 use Rattle.lines.proofs.last_line.Reads as last-line-reads
 use Rattle.lines.proofs.line.Reads as line_reads_lem
-use Rattle.log.proofs.front.Reads as front_reads
+use Rattle.event_log.proofs.front.Reads as front_reads
 use Rattle.replaying.proofs.State.moved.Reads as moved-reads
 use Rattle.replaying.proofs.State.opened.Reads as opened-reads
 use Rattle.replaying.proofs.answering.answer.Reads as answer-reads

@@ -1,5 +1,5 @@
 use Rattle.wire.specs.Layout.{identity_entries}
-use Rattle.bytes.specs.Bytes.{puts}
+use Rattle.octets.specs.Bytes.{puts}
 use borrow.Author.Rules.{rules}
 use Rattle.wire.proofs.fields.put_identity.Statement.{statement}
 use Rattle.wire.proofs.fields.put_identity.Tie as tie

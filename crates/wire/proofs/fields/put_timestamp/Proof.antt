@@ -1,5 +1,5 @@
 use Rattle.wire.specs.Layout.{timestamp_entries}
-use Rattle.bytes.specs.Bytes.{puts}
+use Rattle.octets.specs.Bytes.{puts}
 use borrow.Author.Rules.{rules}
 use Rattle.wire.proofs.fields.put_timestamp.Statement.{statement}
 use Rattle.wire.proofs.fields.put_timestamp.Tie as tie

@@ -1,9 +1,9 @@
 use Rattle.wire.specs.declared.Rest.TheVariants as Q
 use native.Mathlib.Omega.{arith}
 use mathlib.Core.Path.{sym, ◌∙◌, refl}
-use Rattle.bytes.specs.Bytes.{puts, size_of}
+use Rattle.octets.specs.Bytes.{puts, size_of}
 use Rattle.wire.specs.Layout.{body_entries, timestamp_entries, identity_entries}
-use Rattle.wire.specs.LayoutLaws.{rest_room}
+use Rattle.wire.proofs.LayoutLaws.{rest_room}
 use borrow.Author.Rules.{rules}
 use Rattle.writing.proofs.bodies.write_body.Statement.{statement}
 use Rattle.writing.proofs.bodies.write_body.Tie as tie

@@ -2,7 +2,7 @@ use Prim.Native.Nat.{◌^◌}
 use native.Mathlib.Omega.{arith}
 use borrow.Author.Rules.{rules}
 use borrow.Author.Tests.{lt-ltb}
-use Rattle.bytes.specs.Bytes.{roomy}
+use Rattle.octets.specs.Bytes.{roomy}
 use Rattle.wire.specs.Layout.{timestamp_entries, identity_entries}
 use Rattle.writing.proofs.fits.answer_fits.Statement.{statement}
 use Rattle.writing.proofs.fits.answer_fits.Tie as tie

@@ -1,4 +1,4 @@
-use Rattle.bytes.specs.Bytes.{roomy}
+use Rattle.octets.specs.Bytes.{roomy}
 use Rattle.wire.specs.Layout.{timestamp_entries, identity_entries, body_entries}
 use borrow.Author.Rules.{rules}
 use Rattle.writing.proofs.fits.body_fits.Statement.{statement}

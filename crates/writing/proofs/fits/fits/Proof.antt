@@ -5,8 +5,8 @@ use borrow.Author.Tests.{eq-eqb, ne_eqb}
 use Rattle.wire.specs.declared.MessageType.{MessageType}
 use Rattle.wire.specs.Layout.{row, type_of, header_entries, identity_entries}
 use Rattle.writing.specs.Writing.{fits_of, together}
-use Rattle.bytes.specs.BytesLaws.{fits_roomy}
-use Rattle.wire.specs.LayoutLaws.{row_bounds}
+use Rattle.octets.proofs.BytesLaws.{fits_roomy}
+use Rattle.wire.proofs.LayoutLaws.{row_bounds}
 use Rattle.writing.proofs.Room.{fits_by_tests}
 use borrow.Author.Rules.{rules}
 use Rattle.writing.proofs.fits.fits.Statement.{statement}

@@ -4,7 +4,7 @@ use mathlib.Core.Bool.{and-false}
 use native.Mathlib.Omega.{arith}
 use borrow.Author.Rules.{rules}
 use borrow.Author.Tests.{lt-ltb}
-use Rattle.bytes.specs.Bytes.{roomy}
+use Rattle.octets.specs.Bytes.{roomy}
 use Rattle.wire.specs.Layout.{timestamp_entries}
 use Rattle.writing.specs.Writing.{is_time}
 use Rattle.writing.specs.WritingLaws.{seconds_given}

@@ -1,5 +1,5 @@
 use Rattle.wire.specs.Layout.{header_entries, identity_entries}
-use Rattle.bytes.specs.Bytes.{puts}
+use Rattle.octets.specs.Bytes.{puts}
 use borrow.Author.Rules.{rules}
 use Rattle.writing.proofs.headers.write_back.Statement.{statement}
 use Rattle.writing.proofs.headers.write_back.Tie as tie

@@ -1,8 +1,8 @@
 use mathlib.Core.Path.{◌∙◌, ap}
 use lib.ListN.{drop}
-use Rattle.bytes.specs.Bytes.{puts}
+use Rattle.octets.specs.Bytes.{puts}
 use Rattle.wire.specs.Layout.{header_entries}
-use Rattle.wire.specs.LayoutLaws.{header_written}
+use Rattle.wire.proofs.LayoutLaws.{header_written}
 use borrow.Author.Rules.{rules}
 use Rattle.writing.proofs.headers.write_header.Statement.{statement}
 use Rattle.writing.proofs.headers.write_header.Tie as tie

@@ -1,0 +1,2 @@
+-- Numbers in bytes. To be believed: `Bytes`. What follows from it: the laws.
+pub mod Bytes

@@ -1,0 +1,62 @@
+-- One induction for all that is said of a run over a window: what stands at the front, and the rest of the run behind it.
+use Rattle.std.specs.Prelude.{◌≡◌, ℕ, zero, suc, ◌+◌, ◌-◌, ◌<◌, ◌≤◌, Bool, true, false, List, [], length, take, drop, nat_lt, refl}
+use Rattle.std.proofs.Common.{sym, subst, arith, ltb-true, ltb-false, length-drop}
+use Rattle.record.specs.declared.Config.{Config}
+use Rattle.rules.specs.Events.{Event}
+use Rattle.event_log.specs.declared.Logged.{Logged}
+use Rattle.event_log.specs.declared.Next.{Next}
+use Rattle.event_log.specs.Fields.{front_of}
+use Rattle.streaming.specs.Log.{Fields, scan, told, onward}
+use Rattle.streaming.specs.FrontLaws.{Front, front}
+use Rattle.streaming.proofs.StreamingLaws.{scan_is}
+use Rattle.lines.specs.declared.Style.{Style}
+use Rattle.lines.specs.Lines.{line_of, bad_line, last_line}
+use Rattle.replaying.specs.declared.State.{State}
+use Rattle.replaying.specs.declared.Stop.{Stop}
+use Rattle.replaying.specs.Replay.{answer_to}
+use Rattle.replaying.specs.Turns.{line_room, opened, moved, Run, stopped, after, run_of}
+use Rattle.replaying.specs.OneLaws.{run_starts, run_next, run_good, run_bad, run_rest}
+use Rattle.replaying.proofs.TurnLaws.{full_run}
+
+-- P is said of a run from the state q, with so much room, over the window s
+pub record Steps (style : Style) (last : Bool) (P : State → ℕ → List ℕ → Run → Type 0) : Type 0 where
+  pub full : (q : State) (room : ℕ) (s : List ℕ) → room < line_room → P q room s (stopped [] q Stop.Full)
+  pub config : (q : State) (room : ℕ) (s : List ℕ) (c : Config) → front_of q.first s last ≡ Next.Config c → 36 ≤ length s
+      → (x : Run) → P (opened q c 36) room (drop 36 s) x → P q room s (after [] 36 x)
+  pub event : (q : State) (room : ℕ) (s : List ℕ) (e : Logged) (k : ℕ) → front_of q.first s last ≡ Next.Event e k → 3 ≤ k → k ≤ length s
+      → (x : Run) → P (moved q (answer_to q.port (told (take k s) e)).port k) (room - length (line_of style q.number (answer_to q.port (told (take k s) e)))) (drop k s) x
+      → P q room s (after (line_of style q.number (answer_to q.port (told (take k s) e))) k x)
+  pub more : (q : State) (room : ℕ) (s : List ℕ) → front_of q.first s last ≡ Next.More → P q room s (stopped [] q Stop.More)
+  pub good_end : (q : State) (room : ℕ) (s : List ℕ) → front_of q.first s last ≡ Next.End → P q room s (stopped (last_line style q.port) q Stop.Done)
+  pub bad_end : (q : State) (room : ℕ) (s : List ℕ) → front_of q.first s last ≡ Next.Bad → P q room s (stopped (bad_line q.offset) q Stop.Done)
+
+module _ (style : Style) (last : Bool) (P : State → ℕ → List ℕ → Run → Type 0) (steps : Steps style last P) where
+  by_front : (q : State) (room a : ℕ) (s : List ℕ) → line_room ≤ room
+      → ((k : ℕ) → 3 ≤ k → k ≤ length s → (p : State) (r b : ℕ) → P p r (drop k s) (run_of style p r (scan last p.first b (drop k s))))
+      → (y : Next) → front_of q.first s last ≡ y → Front q.first s last y → P q room s (run_of style q room (onward y a q.first s (λ k. scan last false (a + k) (drop k s))))
+  by_front q room a s h go (Next.Config c) e (_, fits) =
+      subst (P q room s) (sym (run_starts style q room h c 36 (scan last false (a + 36) (drop 36 s))))
+      (steps.config q room s c e fits _ (go 36 (omega arith) fits (opened q c 36) room (a + 36)))
+  by_front q room a s h go (Next.Event e k) f (_, (three, fits)) =
+      let v : Event = told (take k s) e in
+      let w : List ℕ = line_of style q.number (answer_to q.port v) in
+      subst (P q room s) (sym (run_next style q room h v k (scan last false (a + k) (drop k s))))
+      (steps.event q room s e k f three fits _ (go k three fits (moved q (answer_to q.port v).port k) (room - length w) (a + k)))
+  by_front q room a s h go Next.More e f = subst (P q room s) (sym (run_rest style q room h a q.first s)) (steps.more q room s e)
+  by_front q room a s h go Next.End e f = subst (P q room s) (sym (run_good style q room h)) (steps.good_end q room s e)
+  by_front q room a s h go Next.Bad e f = subst (P q room s) (sym (run_bad style q room h a)) (steps.bad_end q room s e)
+
+  every_by : (fuel : ℕ) (q : State) (room a : ℕ) (s : List ℕ) → length s < fuel → P q room s (run_of style q room (scan last q.first a s))
+  every_by zero q room a s f = absurd (omega (arith, f))
+  every_by (suc fuel) q room a s f =
+      by_room (nat_lt room 1024) refl
+      (λ h. by_front q room a s h (λ k three fits p r b. every_by fuel p r b (drop k s) (omega (arith, length-drop k s, three, fits, f))) (front_of q.first s last) refl (front q.first s last))
+    where
+      by_room : (b : Bool) → nat_lt room 1024 ≡ b → (line_room ≤ room → P q room s (run_of style q room (onward (front_of q.first s last) a q.first s (λ k. scan last false (a + k) (drop k s))))) → P q room s (run_of style q room (scan last q.first a s))
+      by_room true e k =
+          subst (P q room s) (sym (full_run style q room (scan last q.first a s) (ltb-true room 1024 e))) (steps.full q room s (ltb-true room 1024 e))
+      by_room false e k =
+          subst (λ (l : Fields). P q room s (run_of style q room l)) (sym (scan_is last q.first a s)) (k (ltb-false room 1024 e))
+
+  pub every : (q : State) (room a : ℕ) (s : List ℕ) → P q room s (run_of style q room (scan last q.first a s))
+  every q room a s = every_by (suc (length s)) q room a s (omega arith)

@@ -1,0 +1,189 @@
+-- Laws of what is carried of a stamp: the room that it takes, what it means, and exactly when nothing is carried.
+use Prim.Native.Nat.{ℕ, suc, ◌+◌, ◌*◌, ◌/◌, ◌%◌, ◌^◌, ◌≤◌, ◌<◌}
+use Rattle.std.specs.Prelude.{◌≡◌, refl, false, ◌⊎◌, ℤ, negsuc, ◌+ℤ◌, ◌-ℤ◌, ◌*ℤ◌}
+use Rattle.std.proofs.Common.{sym, ◌∙◌, subst, inl, inr, arith, lt_trans, lit<}
+use Rattle.std.proofs.Math.Path.{ap}
+use Rattle.std.proofs.Math.Decide.{dec_lt}
+use Rattle.std.proofs.Math.IntN.{pos, sub_ℕ}
+use Rattle.time.specs.declared.Time.{Time}
+use Rattle.time.specs.declared.WireTimestamp.{WireTimestamp}
+use Rattle.time.specs.declared.WireAnswer.{WireAnswer}
+use Rattle.time.specs.declared.WireAnswer.TheVariants as W
+use Rattle.time.specs.Units.{spelled, time, wire, wire_of, signed, correction}
+use Rattle.time.specs.Laws.{signed_low}
+use Rattle.time.specs.WireLaws.{Sent, wire_is, wire_sent, wire_out, wire_out_is}
+use Rattle.time.specs.Lemmas.Integers.{pos_sub, negsuc_sub, difference_is, product_is, not_below}
+use Rattle.octets.proofs.BytesLaws.{apart}
+use Rattle.sent.specs.declared.CorrectionAnswer.{CorrectionAnswer}
+use Rattle.sent.specs.declared.CorrectionAnswer.TheVariants as C
+use Rattle.sent.specs.declared.Carried.TheVariants as S
+use Rattle.sent.specs.Messages.{in_correction, correction_of, with_correction, less_fraction, answer_stamp, fraction, follow_stamp}
+use Rattle.sent.proofs.Laws.{IsCorrection, correction_is, correction_out_when, correction_out_is}
+
+-- ---- a stamp's numbers
+
+abbrev pub units_of : Time → ℕ
+units_of t = spelled t.hi t.lo
+
+-- f: the fraction of a nanosecond in 2 ^ -16 ns
+abbrev pub fraction_of : Time → ℕ
+fraction_of t = units_of t % 2 ^ 32 / 2 ^ 16
+
+-- what is left of n units without the fraction's low 16 bits
+abbrev pub cut_to16 : ℕ → ℕ
+cut_to16 n = n / 2 ^ 16 * 2 ^ 16
+
+-- the units of 2 ^ 48 seconds, too many from there on
+abbrev pub late_from : ℕ
+late_from = 2 ^ 48 * 10 ^ 9 * 2 ^ 32
+
+-- what an answer's correction has to be
+abbrev pub less_of : ℕ → Time → ℤ
+less_of asked t = signed 64 asked -ℤ pos (fraction_of t)
+
+-- ---- what was carried
+
+-- the room that a timestamp and a correction take
+pub record HasRoom (w : WireTimestamp) (c : ℕ) : Type 0 where
+  pub seconds : w.seconds < 2 ^ 48
+  pub nanos : w.nanos < 10 ^ 9
+  pub correction : c < 2 ^ 64
+
+fraction_from : (a : WireAnswer) (w : WireTimestamp) (c : ℕ) → fraction a ≡ S.Value w c → a ≡ W.Value w c
+fraction_from (W.Value v f) w c e =
+    let p : v ≡ w = cc in
+    let q : f ≡ c = cc in
+    λ i. W.Value (p i) (q i)
+fraction_from W.Out w c e = absurd (apart cc)
+
+module _ (t : Time) (w : WireTimestamp) (c : ℕ) (e : follow_stamp t ≡ S.Value w c) where
+  follow_sent : Sent (units_of t) w c
+  unfolding follow_stamp time
+  follow_sent = wire_is (units_of t) w c (fraction_from (wire_of (time t)) w c e)
+
+  pub follow_room : HasRoom w c
+  follow_room = record { seconds = follow_sent.seconds; nanos = follow_sent.nanos; correction = lt_trans follow_sent.fraction (lit< tt) }
+
+  -- timestamp and correction together are the stamp, cut
+  pub follow_means : wire w +ℤ correction c ≡ pos (cut_to16 (units_of t))
+  follow_means = follow_sent.cut
+
+-- where an answer's two parts come from
+record Parts (c : ℕ) (a : WireAnswer) (w : WireTimestamp) (r : ℕ) : Type 0 where
+  f : ℕ
+  stamp : a ≡ W.Value w f
+  less : correction_of (signed 64 c -ℤ pos f) ≡ C.Value r
+
+less_from : (c : ℕ) (a : WireAnswer) (w : WireTimestamp) (r : ℕ) → less_fraction c a ≡ S.Value w r → Parts c a w r
+less_from c (W.Value v f) w r e = go (correction_of (signed 64 c -ℤ pos f)) refl
+  where
+    go : (k : CorrectionAnswer) → correction_of (signed 64 c -ℤ pos f) ≡ k → Parts c (W.Value v f) w r
+    go (C.Value k) g =
+        let h : S.Value v k ≡ S.Value w r = sym (ap (with_correction v) g) ∙ e in
+        let p : v ≡ w = cc in
+        let q : k ≡ r = cc in
+        record { f = f; stamp = ap (λ (x : WireTimestamp). W.Value x f) p; less = g ∙ ap C.Value q }
+    go C.Out g =
+        let h : S.Out ≡ S.Value w r = sym (ap (with_correction v) g) ∙ e in
+        absurd (apart cc)
+less_from c W.Out w r e = absurd (apart cc)
+
+-- x - (z - f) × 65,536 is x + f × 65,536 - z × 65,536: where z is a difference, and for each z
+abbrev Scaled : ℕ → ℕ → ℤ → Type 0
+Scaled x f z = pos x -ℤ (z -ℤ pos f) *ℤ pos 65536 ≡ pos (x + f * 65536) -ℤ z *ℤ pos 65536
+
+scaled_difference : (x f p q : ℕ) → Scaled x f (sub_ℕ p q)
+scaled_difference x f p q =
+    let a : ℕ = x + (q + f) * 65536 in
+    let b : ℕ = p * 65536 in
+    let less : sub_ℕ p q -ℤ pos f ≡ sub_ℕ p (q + f) = ap (λ (y : ℤ). sub_ℕ p q -ℤ y) (pos_sub f) ∙ difference_is p q f 0 p (q + f) (omega arith) in
+    let minus : (n c : ℕ) → n + c ≡ a → pos n -ℤ sub_ℕ b c ≡ sub_ℕ a b = λ n c e. ap (λ (y : ℤ). y -ℤ sub_ℕ b c) (pos_sub n) ∙ difference_is n 0 b c a b (omega arith) in
+    ap (λ (y : ℤ). pos x -ℤ y *ℤ pos 65536) less
+    ∙ ap (λ (y : ℤ). pos x -ℤ y) (product_is p (q + f) 65536)
+    ∙ minus x ((q + f) * 65536) refl
+    ∙ sym (minus (x + f * 65536) (q * 65536) (omega arith))
+    ∙ ap (λ (y : ℤ). pos (x + f * 65536) -ℤ y) (sym (product_is p q 65536))
+
+scaled : (x f : ℕ) (z : ℤ) → Scaled x f z
+scaled x f (pos n) = subst (Scaled x f) (sym (pos_sub n)) (scaled_difference x f n 0)
+scaled x f (negsuc n) = subst (Scaled x f) (sym (negsuc_sub n)) (scaled_difference x f 0 (suc n))
+
+module _ (asked : ℕ) (t : Time) (w : WireTimestamp) (c : ℕ) (e : answer_stamp asked t ≡ S.Value w c) where
+  parts : Parts asked (wire_of (time t)) w c
+  unfolding answer_stamp
+  parts = less_from asked (wire_of (time t)) w c e
+
+  answer_sent : Sent (units_of t) w parts.f
+  unfolding time
+  answer_sent = wire_is (units_of t) w parts.f parts.stamp
+
+  answer_correction : IsCorrection (signed 64 asked -ℤ pos parts.f) c
+  answer_correction = correction_is (signed 64 asked -ℤ pos parts.f) c parts.less
+
+  pub answer_room : HasRoom w c
+  answer_room = record { seconds = answer_sent.seconds; nanos = answer_sent.nanos; correction = answer_correction.small }
+
+  -- timestamp less correction, as the requester takes them, is the stamp, cut, less the request's own correction
+  pub answer_means : wire w -ℤ correction c ≡ pos (cut_to16 (units_of t)) -ℤ correction asked
+  unfolding wire correction
+  answer_means =
+      let x : ℕ = (w.seconds * 10 ^ 9 + w.nanos) * 2 ^ 32 in
+      let small : signed 64 parts.f ≡ pos parts.f = signed_low 64 parts.f (lt_trans answer_sent.fraction (lit< tt)) in
+      let whole : pos (x + parts.f * 65536) ≡ pos (cut_to16 (units_of t)) = ap (λ (z : ℤ). pos x +ℤ z *ℤ pos 65536) (sym small) ∙ answer_sent.cut in
+      ap (λ (z : ℤ). pos x -ℤ z *ℤ pos 65536) answer_correction.value
+      ∙ scaled x parts.f (signed 64 asked)
+      ∙ ap (λ (z : ℤ). z -ℤ correction asked) whole
+
+-- ---- when something is carried, and when nothing
+
+-- whole seconds, and the whole nanoseconds of the last
+abbrev pub stamp_of : Time → WireTimestamp
+stamp_of t = record { seconds = units_of t / 2 ^ 32 / 10 ^ 9; nanos = units_of t / 2 ^ 32 % 10 ^ 9 }
+
+pub follow_timely : (t : Time) → units_of t < late_from → follow_stamp t ≡ S.Value (stamp_of t) (fraction_of t)
+unfolding follow_stamp time
+follow_timely t h = ap fraction (wire_sent (units_of t) h)
+
+pub follow_out_when : (t : Time) → late_from ≤ units_of t → follow_stamp t ≡ S.Out
+unfolding follow_stamp time
+follow_out_when t h = ap fraction (wire_out (units_of t) h)
+
+fraction_out : (a : WireAnswer) → fraction a ≡ S.Out → a ≡ W.Out
+fraction_out (W.Value w f) e = absurd (apart cc)
+fraction_out W.Out e = refl
+
+pub follow_out_is : (t : Time) → follow_stamp t ≡ S.Out → late_from ≤ units_of t
+unfolding follow_stamp time
+follow_out_is t e = wire_out_is (units_of t) (fraction_out (wire_of (time t)) e)
+
+-- an answer may be too late too, and where it is not its correction may leave 64 bits
+pub answer_timely : (asked : ℕ) (t : Time) → units_of t < late_from → answer_stamp asked t ≡ with_correction (stamp_of t) (correction_of (less_of asked t))
+unfolding answer_stamp time
+answer_timely asked t h = ap (less_fraction asked) (wire_sent (units_of t) h)
+
+answer_late : (asked : ℕ) (t : Time) → late_from ≤ units_of t → answer_stamp asked t ≡ S.Out
+unfolding answer_stamp time
+answer_late asked t h = ap (less_fraction asked) (wire_out (units_of t) h)
+
+with_out : (w : WireTimestamp) (k : CorrectionAnswer) → with_correction w k ≡ S.Out → k ≡ C.Out
+with_out w (C.Value c) e = absurd (apart cc)
+with_out w C.Out e = refl
+
+module _ (asked : ℕ) (t : Time) where
+  abbrev pub Unanswered : Type 0
+  Unanswered = (late_from ≤ units_of t) ⊎ (in_correction (less_of asked t) ≡ false)
+
+  pub answer_out_when : Unanswered → answer_stamp asked t ≡ S.Out
+  answer_out_when (inl h) = answer_late asked t h
+  answer_out_when (inr h) = go (dec_lt (units_of t) late_from)
+    where
+      go : Dec (units_of t < late_from) → answer_stamp asked t ≡ S.Out
+      go (yes k) = answer_timely asked t k ∙ ap (with_correction (stamp_of t)) (correction_out_when (less_of asked t) h)
+      go (no k) = answer_late asked t (not_below (units_of t) late_from k)
+
+  pub answer_out_is : answer_stamp asked t ≡ S.Out → Unanswered
+  answer_out_is e = go (dec_lt (units_of t) late_from)
+    where
+      go : Dec (units_of t < late_from) → Unanswered
+      go (yes k) = inr (correction_out_is (less_of asked t) (with_out (stamp_of t) (correction_of (less_of asked t)) (sym (answer_timely asked t k) ∙ e)))
+      go (no k) = inl (not_below (units_of t) late_from k)

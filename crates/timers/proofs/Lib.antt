@@ -1,0 +1,4 @@
+-- Laws of what specs/ defines, for the crates above to cite.
+pub mod Examples
+pub mod TimerLaws
+pub mod ToldLaws

@@ -1,0 +1,20 @@
+-- Laws of what specs/ defines, for the crates above to cite.
+pub mod BesideLaws
+pub mod DelaySideLaws
+pub mod FrameLaws
+pub mod GatherLaws
+pub mod HarmlessExamples
+pub mod LaneLaws
+pub mod OrderLaws
+pub mod OutsideExamples
+pub mod PeerSideLaws
+pub mod PlainLaws
+pub mod ReadLaws
+pub mod RequestIdLaws
+pub mod RequestSideLaws
+pub mod SideLaws
+pub mod SyncSideLaws
+pub mod TimesLaws
+pub mod UndisturbedLaws
+pub mod WovenExamples
+pub mod WovenPeerExamples

@@ -1,0 +1,256 @@
+-- The times that the events of an exchange have brought, beside those that the record holds: an event that brings what is missing stores just that.
+use Rattle.std.specs.Prelude.{ℕ, ◌≡◌, refl, Bool, true, false, ◌&&◌, ◌||◌, List, [], ◌∷◌, ◌++◌, ℤ}
+use Rattle.std.proofs.Common.{sym, ap, ◌∙◌, subst, true≢false}
+use Rattle.std.proofs.Math.Bool.{and_assoc, and-true}
+use Rattle.std.proofs.Math.Option.{Option, none, some}
+use Rattle.time.specs.Units.{time}
+use Rattle.octets.proofs.BytesLaws.{apart, neither}
+use Rattle.fitness.specs.Fit.{there}
+use Rattle.rules.specs.Names.{Time, MaybeTime, Mechanism, Config}
+use Rattle.rules.specs.Events.{Event}
+use Rattle.rules.specs.WorkedOut.{Completed, unfinished, sync, delay, peer}
+use Rattle.undisturbed.specs.Times.{Times, no_times, times_in, times_of, earlier_of, and_then, if_given, request_of}
+
+-- ---- none of the times of one is one of the other's; all that an exchange wants is there
+
+abbrev pub both_given : Option ℤ → Option ℤ → Bool
+both_given none b = false
+both_given (some a) none = false
+both_given (some a) (some b) = true
+
+abbrev pub overlap : Times → Times → Bool
+overlap a b =
+    both_given a.send b.send || both_given a.receive b.receive || both_given a.request_receive b.request_receive || both_given a.response_send b.response_send
+
+abbrev pub finished : Completed → Bool
+finished unfinished = false
+finished (sync send receive) = true
+finished (delay send receive) = true
+finished (peer a b d e) = true
+
+-- ---- one event more
+
+or_none_lem : {A : Type 0} (a : Option A) → earlier_of a none ≡ a
+or_none_lem none = refl
+or_none_lem (some a) = refl
+
+or_or : {A : Type 0} (a b d : Option A) → earlier_of (earlier_of a b) d ≡ earlier_of a (earlier_of b d)
+or_or none b d = refl
+or_or (some a) b d = refl
+
+then_none : (a : Times) → and_then a no_times ≡ a
+then_none a =
+    λ i. record { send = or_none_lem a.send i; receive = or_none_lem a.receive i; request_receive = or_none_lem a.request_receive i; response_send = or_none_lem a.response_send i }
+
+then_assoc : (a b d : Times) → and_then (and_then a b) d ≡ and_then a (and_then b d)
+then_assoc a b d =
+    λ i. record {
+      send = or_or a.send b.send d.send i;
+      receive = or_or a.receive b.receive d.receive i;
+      request_receive = or_or a.request_receive b.request_receive d.request_receive i;
+      response_send = or_or a.response_send b.response_send d.response_send i;
+    }
+
+pub times_snoc : (c : Config) (es : List Event) (e : Event) → times_of c (es ++ (e ∷ [])) ≡ and_then (times_of c es) (times_in c e)
+unfolding times_of
+times_snoc c [] e = then_none (times_in c e)
+times_snoc c (f ∷ es) e =
+    ap (and_then (times_in c f)) (times_snoc c es e) ∙ sym (then_assoc (times_in c f) (times_of c es) (times_in c e))
+
+-- ---- times that are held
+
+pub record Bag : Type 0 where
+  pub send : MaybeTime
+  pub receive : MaybeTime
+  pub request_receive : MaybeTime
+  pub response_send : MaybeTime
+
+abbrev pub empty_bag : Bag
+empty_bag = record { send = MaybeTime.None; receive = MaybeTime.None; request_receive = MaybeTime.None; response_send = MaybeTime.None }
+
+-- with one more
+abbrev pub with_send : Bag → Time → Bag
+with_send v t = record { send = MaybeTime.Some t; receive = v.receive; request_receive = v.request_receive; response_send = v.response_send }
+
+abbrev pub with_receive : Bag → Time → Bag
+with_receive v t = record { send = v.send; receive = MaybeTime.Some t; request_receive = v.request_receive; response_send = v.response_send }
+
+abbrev pub with_response_send : Bag → Time → Bag
+with_response_send v t = record { send = v.send; receive = v.receive; request_receive = v.request_receive; response_send = MaybeTime.Some t }
+
+abbrev pub Holds : Option ℤ → MaybeTime → Type 0
+Holds none MaybeTime.None = Unit {0}
+Holds none (MaybeTime.Some t) = ⊥
+Holds (some z) MaybeTime.None = ⊥
+Holds (some z) (MaybeTime.Some t) = time t ≡ z
+
+pub record HoldsAll (a : Times) (v : Bag) : Type 0 where
+  pub send : Holds a.send v.send
+  pub receive : Holds a.receive v.receive
+  pub request_receive : Holds a.request_receive v.request_receive
+  pub response_send : Holds a.response_send v.response_send
+
+pub none_held : HoldsAll no_times empty_bag
+none_held = record { send = tt; receive = tt; request_receive = tt; response_send = tt }
+
+-- ---- what an event stores: where it brings nothing, the time that was held; else a time worth what it brings
+
+abbrev pub Fills : Option ℤ → MaybeTime → MaybeTime → Type 0
+Fills none m n = n ≡ m
+Fills (some z) m n = Holds (some z) n
+
+pub record FillsAll (b : Times) (v w : Bag) : Type 0 where
+  pub send : Fills b.send v.send w.send
+  pub receive : Fills b.receive v.receive w.receive
+  pub request_receive : Fills b.request_receive v.request_receive w.request_receive
+  pub response_send : Fills b.response_send v.response_send w.response_send
+
+filled_holds : (a b : Option ℤ) (m n : MaybeTime) → Holds a m → both_given a b ≡ false → Fills b m n → Holds (earlier_of a b) n
+filled_holds none none m n h o f = subst (Holds none) (sym f) h
+filled_holds (some z) none m n h o f = subst (Holds (some z)) (sym f) h
+filled_holds none (some y) m n h o f = f
+filled_holds (some z) (some y) m n h o f = absurd (apart cc)
+
+-- none of the four is there twice
+record NoneTwice (a b : Times) : Type 0 where
+  send : both_given a.send b.send ≡ false
+  receive : both_given a.receive b.receive ≡ false
+  request_receive : both_given a.request_receive b.request_receive ≡ false
+  response_send : both_given a.response_send b.response_send ≡ false
+
+none_twice : (a b : Times) → overlap a b ≡ false → NoneTwice a b
+none_twice a b o =
+    let (x, d) = neither _ (both_given a.response_send b.response_send) o in
+    let (y, r) = neither _ (both_given a.request_receive b.request_receive) x in
+    let (s, e) = neither (both_given a.send b.send) (both_given a.receive b.receive) y in
+    record { send = s; receive = e; request_receive = r; response_send = d }
+
+pub fills_hold : (a b : Times) (v w : Bag) → HoldsAll a v → overlap a b ≡ false → FillsAll b v w → HoldsAll (and_then a b) w
+fills_hold a b v w h o f =
+    let n : NoneTwice a b = none_twice a b o in
+    record {
+      send = filled_holds a.send b.send v.send w.send h.send n.send f.send;
+      receive = filled_holds a.receive b.receive v.receive w.receive h.receive n.receive f.receive;
+      request_receive = filled_holds a.request_receive b.request_receive v.request_receive w.request_receive h.request_receive n.request_receive f.request_receive;
+      response_send = filled_holds a.response_send b.response_send v.response_send w.response_send h.response_send n.response_send f.response_send;
+    }
+
+-- ---- a time that an event brings is missing in the record
+
+lacking : (a b : Option ℤ) (z : ℤ) (m : MaybeTime) → Holds a m → both_given a b ≡ false → b ≡ some z → m ≡ MaybeTime.None
+lacking none b z MaybeTime.None h o e = refl
+lacking none b z (MaybeTime.Some t) h o e = absurd h
+lacking (some y) b z m h o e = absurd (apart (given_both b e o))
+  where
+    given_both : (b : Option ℤ) → b ≡ some z → both_given (some y) b ≡ false → ◌≡◌ {A = ℕ} 0 1
+    given_both none e o = cc
+    given_both (some x) e o = cc
+
+module _ (a b : Times) (v : Bag) (h : HoldsAll a v) (o : overlap a b ≡ false) (z : ℤ) where
+  pub lacks_send : b.send ≡ some z → v.send ≡ MaybeTime.None
+  lacks_send e = lacking a.send b.send z v.send h.send (none_twice a b o).send e
+
+  pub lacks_receive : b.receive ≡ some z → v.receive ≡ MaybeTime.None
+  lacks_receive e = lacking a.receive b.receive z v.receive h.receive (none_twice a b o).receive e
+
+  pub lacks_response_send : b.response_send ≡ some z → v.response_send ≡ MaybeTime.None
+  lacks_response_send e = lacking a.response_send b.response_send z v.response_send h.response_send (none_twice a b o).response_send e
+
+-- ---- two times, of which an exchange is made of: one is missing, or both are there
+
+module _ (made : ℤ → ℤ → Completed) (finishes : (x y : ℤ) → finished (made x y) ≡ true) where
+  abbrev pub of_two : Option ℤ → Option ℤ → Completed
+  of_two a b = if_given a (λ x. if_given b (λ y. made x y))
+
+  pub one_missing : (a b : Option ℤ) (m n : MaybeTime) → Holds a m → Holds b n → finished (of_two a b) ≡ false → there m && there n ≡ false
+  one_missing none b MaybeTime.None n h j e = refl
+  one_missing none b (MaybeTime.Some t) n h j e = absurd h
+  one_missing (some x) none MaybeTime.None n h j e = absurd h
+  one_missing (some x) none (MaybeTime.Some t) MaybeTime.None h j e = refl
+  one_missing (some x) none (MaybeTime.Some t) (MaybeTime.Some u) h j e = absurd j
+  one_missing (some x) (some y) m n h j e = absurd (true≢false (sym (finishes x y) ∙ e))
+
+  pub record BothThere (a b : Option ℤ) (m n : MaybeTime) : Type 0 where
+    pub first : Time
+    pub second : Time
+    pub first_is : m ≡ MaybeTime.Some first
+    pub second_is : n ≡ MaybeTime.Some second
+    pub worth : of_two a b ≡ made (time first) (time second)
+
+  pub both_there : (a b : Option ℤ) (m n : MaybeTime) → Holds a m → Holds b n → finished (of_two a b) ≡ true → BothThere a b m n
+  both_there none b m n h j e = absurd (apart cc)
+  both_there (some x) none m n h j e = absurd (apart cc)
+  both_there (some x) (some y) MaybeTime.None n h j e = absurd h
+  both_there (some x) (some y) (MaybeTime.Some t) MaybeTime.None h j e = absurd j
+  both_there (some x) (some y) (MaybeTime.Some t) (MaybeTime.Some u) h j e =
+      record { first = t; second = u; first_is = refl; second_is = refl; worth = λ i. made (sym h i) (sym j i) }
+
+-- ---- the four times of a peer exchange
+
+abbrev four : Option ℤ → Option ℤ → Option ℤ → Option ℤ → Completed
+four a b d e = if_given a (λ x. if_given b (λ y. if_given d (λ z. if_given e (λ u. Completed.peer x y z u))))
+
+-- while one is missing, not all are there
+missing_here : (a : Option ℤ) (m : MaybeTime) (k : ℤ → Completed) (others : Bool) → Holds a m → finished (if_given a k) ≡ false → ((z : ℤ) → finished (k z) ≡ false → others ≡ false) → there m && others ≡ false
+missing_here none MaybeTime.None k others h f g = refl
+missing_here none (MaybeTime.Some t) k others h f g = absurd h
+missing_here (some z) MaybeTime.None k others h f g = absurd h
+missing_here (some z) (MaybeTime.Some t) k others h f g = g z f
+
+not_finished : {A : Type 0} (x y z u : ℤ) → finished (Completed.peer x y z u) ≡ false → A
+not_finished x y z u f = absurd (true≢false f)
+
+pub one_of_four_missing : (a : Times) (v : Bag) → HoldsAll a v → finished (request_of Mechanism.Peer a) ≡ false → there v.send && there v.request_receive && there v.response_send && there v.receive ≡ false
+one_of_four_missing a v h f =
+    and_assoc (there v.send && there v.request_receive) (there v.response_send) (there v.receive)
+    ∙ and_assoc (there v.send) (there v.request_receive) (there v.response_send && there v.receive)
+    ∙ missing_here a.send v.send _ _ h.send f (λ x fx.
+    missing_here a.request_receive v.request_receive _ _ h.request_receive fx (λ y fy.
+    missing_here a.response_send v.response_send _ _ h.response_send fy (λ z fz.
+    sym (and-true (there v.receive)) ∙ missing_here a.receive v.receive _ true h.receive fz (λ u fu. not_finished x y z u fu))))
+
+-- a time that is given is held
+record IsHeld (a : Option ℤ) (m : MaybeTime) : Type 0 where
+  value : Time
+  held_is : m ≡ MaybeTime.Some value
+  given_is : a ≡ some (time value)
+
+is_held : (a : Option ℤ) (m : MaybeTime) (k : ℤ → Completed) → Holds a m → finished (if_given a k) ≡ true → IsHeld a m
+is_held none m k h f = absurd (true≢false (sym f))
+is_held (some x) MaybeTime.None k h f = absurd h
+is_held (some x) (MaybeTime.Some t) k h f = record { value = t; held_is = refl; given_is = ap some (sym h) }
+
+pub record FourThere (a : Times) (v : Bag) : Type 0 where
+  pub t1 : Time
+  pub t2 : Time
+  pub t3 : Time
+  pub t4 : Time
+  pub t1_is : v.send ≡ MaybeTime.Some t1
+  pub t2_is : v.request_receive ≡ MaybeTime.Some t2
+  pub t3_is : v.response_send ≡ MaybeTime.Some t3
+  pub t4_is : v.receive ≡ MaybeTime.Some t4
+  pub worth : request_of Mechanism.Peer a ≡ Completed.peer (time t1) (time t2) (time t3) (time t4)
+
+pub four_there_lem : (a : Times) (v : Bag) → HoldsAll a v → finished (request_of Mechanism.Peer a) ≡ true → FourThere a v
+four_there_lem a v h f =
+    let k1 : ℤ → Completed = λ x. if_given a.request_receive (λ y. if_given a.response_send (λ z. if_given a.receive (λ u. Completed.peer x y z u))) in
+    let s1 : IsHeld a.send v.send = is_held a.send v.send k1 h.send f in
+    let f1 : finished (k1 (time s1.value)) ≡ true = subst (λ (o : Option ℤ). finished (if_given o k1) ≡ true) s1.given_is f in
+    let k2 : ℤ → Completed = λ y. if_given a.response_send (λ z. if_given a.receive (λ u. Completed.peer (time s1.value) y z u)) in
+    let s2 : IsHeld a.request_receive v.request_receive = is_held a.request_receive v.request_receive k2 h.request_receive f1 in
+    let f2 : finished (k2 (time s2.value)) ≡ true = subst (λ (o : Option ℤ). finished (if_given o k2) ≡ true) s2.given_is f1 in
+    let k3 : ℤ → Completed = λ z. if_given a.receive (λ u. Completed.peer (time s1.value) (time s2.value) z u) in
+    let s3 : IsHeld a.response_send v.response_send = is_held a.response_send v.response_send k3 h.response_send f2 in
+    let f3 : finished (k3 (time s3.value)) ≡ true = subst (λ (o : Option ℤ). finished (if_given o k3) ≡ true) s3.given_is f2 in
+    let s4 : IsHeld a.receive v.receive = is_held a.receive v.receive (λ u. Completed.peer (time s1.value) (time s2.value) (time s3.value) u) h.receive f3 in
+    record {
+      t1 = s1.value;
+      t2 = s2.value;
+      t3 = s3.value;
+      t4 = s4.value;
+      t1_is = s1.held_is;
+      t2_is = s2.held_is;
+      t3_is = s3.held_is;
+      t4_is = s4.held_is;
+      worth = λ i. four (s1.given_is i) (s2.given_is i) (s3.given_is i) (s4.given_is i);
+    }

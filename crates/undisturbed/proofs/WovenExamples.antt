@@ -1,0 +1,309 @@
+-- A run that demand 3 speaks of, end-to-end, from the bytes of its messages: exchanges woven into each other, ids that wrap, a filter answer and foreign traffic between the parts. It meets all that `undisturbed` asks; what it measures and sends is computed besides. `WovenPeerExamples` has such a run peer-to-peer, `OutsideExamples` what demand 3 does not speak of.
+use Rattle.std.specs.Prelude.{ℕ, ◌^◌, ◌*◌, ◌≡◌, Bool, true, false, ◌&&◌, List, [], ◌∷◌, length, replicate, eqb}
+use Rattle.std.proofs.Math.Path.{refl}
+use Rattle.std.proofs.Common.{sym, ap, true≢false}
+use Rattle.octets.specs.Bytes.{bytes_of}
+use Rattle.octets.proofs.BytesLaws.{both}
+use Rattle.wire.specs.Layout.{header_entries, message_bytes, two_step_flag}
+use Rattle.wire.specs.declared.MessageType.TheVariants as M
+use Rattle.sent.specs.Messages.{header_for, no_flag, no_interval}
+use Rattle.record.specs.Record.{slave_of}
+use Rattle.rules.specs.Names.{Time, Identity, Header, Body, Mechanism, Config, Port, MaybeDuration, MaybeNanoseconds, FilterUpdate, NewState, Context, Outcome, Measurement}
+use Rattle.rules.specs.Events.{Event, event, general, stamp, sync_timer, delay_timer, filter_answer, set_state, buffer_after}
+use Rattle.rules.specs.Given.{BytesIn}
+use Rattle.rules.specs.Table.{row4, row5, row6, row8}
+use Rattle.undisturbed.specs.Runs.{Lane, syncs, requests, new, in_full, a_part, the_last, from_filter, foreign, within, free, Item, placed, gather_from, gather, lane, joined, Each, log_of, found, Single}
+use Rattle.time.specs.declared.WireTimestamp.{WireTimestamp}
+use Rattle.undisturbed.specs.Times.{no_times, later_times, event_times, stamp_times, times_in}
+use Rattle.undisturbed.specs.Whole.{Piece, the_sync, this_one, one_behind, InAnyOrder, firstly, lastly, FromMaster, OfSync, OfDelay, SyncExchange, RequestExchange, SyncExchanges, RequestExchanges, Foreign, FilterAnswer, Not}
+use Rattle.undisturbed.specs.Undisturbed.{Reply, happens, measured_in, NothingElse, AllStand, Woven, Undisturbed}
+use Rattle.undisturbed.proofs.UndisturbedLaws.{undisturbed}
+use Rattle.rules.specs.Running.{run_of, us, master, stranger, ns, lasting, set_up, slave, message, wire_ns, two_step_sync_of, one_step_sync_of, follow_up_at}
+use Rattle.rules.proofs.Examples.{last_ids}
+use Rattle.rules.proofs.IeeeExamples.{small, small_bytes}
+
+-- ---- words for runs: an event at its place
+
+abbrev pub sync_part : Event → Item Event
+sync_part e = placed (within syncs (a_part new)) e
+
+abbrev pub sync_last : Event → Item Event
+sync_last e = placed (within syncs (the_last in_full)) e
+
+abbrev pub request_part : Event → Item Event
+request_part e = placed (within requests (a_part new)) e
+
+abbrev pub request_last : Event → Item Event
+request_last e = placed (within requests (the_last in_full)) e
+
+abbrev pub of_filter : Event → Item Event
+of_filter e = placed (free from_filter) e
+
+abbrev pub of_others : Event → Item Event
+of_others e = placed (free foreign) e
+
+-- messages are lists of bytes: a test of a whole run
+abbrev pub small_in : Event → Bool
+small_in (event t m) = small m
+small_in (general m) = small m
+small_in (stamp t context) = true
+small_in sync_timer = true
+small_in (delay_timer draw) = true
+small_in (filter_answer update) = true
+small_in (set_state state) = true
+
+unfoldable pub all_small : List (Item Event) → Bool
+all_small [] = true
+all_small (placed place e ∷ es) = small_in e && all_small es
+
+pub all_bytes : (run : List (Item Event)) → all_small run ≡ true → Each (λ place e. BytesIn e) run
+unfolding all_small Each
+all_bytes [] h = tt
+all_bytes (placed place e ∷ es) h = (one e (both (small_in e) (all_small es) h).0, all_bytes es (both (small_in e) (all_small es) h).1)
+  where
+    one : (e : Event) → small_in e ≡ true → BytesIn e
+    one (event t m) h = small_bytes m h
+    one (general m) h = small_bytes m h
+    one (stamp t context) h = tt
+    one sync_timer h = tt
+    one (delay_timer draw) h = tt
+    one (filter_answer update) h = tt
+    one (set_state state) h = tt
+
+-- what is told of each answer: its number, and its packet if something is sent
+abbrev pub outcome_in : Reply → List Outcome
+outcome_in a = a.outcome ∷ []
+
+abbrev pub or_none : List ℕ → List (List ℕ)
+or_none [] = []
+or_none (x ∷ xs) = (x ∷ xs) ∷ []
+
+abbrev pub sent_in : Reply → List (List ℕ)
+sent_in a = or_none a.packet
+
+-- ---- the port: a Slave with an asymmetry of 10 ns and no mean delay, whose next ids are 65535; and its buffer
+
+abbrev p : Port
+p = last_ids (slave 10)
+
+abbrev pub buffer : List ℕ
+buffer = replicate 64 0xEE
+
+-- ---- what happens to it
+
+-- three sync exchanges: 7 is two-step; 8 two-step with its FollowUp first, which has a correction of 5 ns; 9 one-step
+abbrev pub sync7 : Event
+sync7 = event (ns 1000) (two_step_sync_of 7)
+
+abbrev pub follow_up7 : Event
+follow_up7 = general (follow_up_at 7 900)
+
+abbrev pub follow_up8 : Event
+follow_up8 = general (message master no_flag (5 * 2 ^ 16) 8 (Body.FollowUp (wire_ns 1895)))
+
+abbrev pub sync8 : Event
+sync8 = event (ns 2100) (two_step_sync_of 8)
+
+abbrev pub sync9 : Event
+sync9 = event (ns 3000) (one_step_sync_of 9 2900)
+
+-- two requests: of the first, 65535, the DelayResp comes before the stamp; of the second, 0, behind it
+abbrev delay_resp_to : Identity → ℕ → ℕ → Event
+delay_resp_to requester id n = general (message master no_flag 0 id (Body.DelayResp (wire_ns n) requester))
+
+abbrev request65535 : Event
+request65535 = delay_timer 0
+
+abbrev response65535 : Event
+response65535 = delay_resp_to us 65535 1960
+
+abbrev stamp65535 : Event
+stamp65535 = stamp (ns 2000) (Context.DelayReq 65535)
+
+abbrev request0 : Event
+request0 = delay_timer 1
+
+abbrev stamp0 : Event
+stamp0 = stamp (ns 2500) (Context.DelayReq 0)
+
+abbrev response0 : Event
+response0 = delay_resp_to us 0 2450
+
+-- the filter gives a mean delay of 30 ns
+abbrev pub mean_of30 : Event
+mean_of30 =
+    filter_answer (record { mean_delay = MaybeDuration.Some (lasting 30); next_update = MaybeNanoseconds.None })
+
+-- foreign traffic that is refused: one byte is answered 4; a Sync 8 of the master, but in another domain, 6; an Announce, 8
+abbrev pub one_byte : Event
+one_byte = general (0xA0 ∷ [])
+
+abbrev pub other_domain : Event
+other_domain =
+    event (ns 1050) (message_bytes (header_for (record { sdo = 0xA22; domain = 0x20; minor = 0x1; identity = master }) M.Sync two_step_flag 0 8 no_interval) (Body.Sync (wire_ns 0)))
+
+abbrev pub announce : Event
+announce =
+    general (bytes_of (header_entries (record { major_sdo = 0xA; kind = 11; minor = 0x1; version = 2; length = 34; domain = 0x21; minor_sdo = 0x22; flags = 0; correction = 0; source = master; id = 0; interval = 0 }) 5))
+
+-- and that is taken: a PDelayReq, which is answered, and the stamp of the answer, which sends its follow-up; a stranger's Sync, with an id that is open; a DelayResp for a stranger, with the id of our request
+abbrev pub strangers_p_delay_req : Event
+strangers_p_delay_req = event (ns 1100) (message stranger no_flag 0 40 (Body.PDelayReq (wire_ns 0)))
+
+abbrev pub p_delay_resp_stamp : Event
+p_delay_resp_stamp = stamp (ns 1200) (Context.PDelayResp 40 stranger)
+
+abbrev pub strangers_sync : Event
+strangers_sync = event (ns 1300) (message stranger two_step_flag 0 8 (Body.Sync (wire_ns 0)))
+
+abbrev pub delay_resp_for_stranger : Event
+delay_resp_for_stranger = delay_resp_to stranger 0 2400
+
+-- ---- the run: sync exchange 7 stands within the first request exchange, 8 begins within it and ends within the second, 9 stands within the second
+
+abbrev run : List (Item Event)
+run =
+    request_part request65535
+    ∷ sync_part sync7
+    ∷ of_others one_byte
+    ∷ request_part response65535
+    ∷ of_others strangers_p_delay_req
+    ∷ sync_last follow_up7
+    ∷ of_others p_delay_resp_stamp
+    ∷ sync_part follow_up8
+    ∷ of_filter mean_of30
+    ∷ of_others strangers_sync
+    ∷ request_last stamp65535
+    ∷ of_others other_domain
+    ∷ request_part request0
+    ∷ of_others delay_resp_for_stranger
+    ∷ sync_last sync8
+    ∷ of_others announce
+    ∷ request_part stamp0
+    ∷ sync_last sync9
+    ∷ request_last response0
+    ∷ []
+
+-- gathered: each exchange stands together where its last event stood, and nothing else has moved
+pub gathered : gather run ≡ of_others one_byte ∷ of_others strangers_p_delay_req ∷ sync_part sync7 ∷ sync_last follow_up7 ∷ of_others p_delay_resp_stamp ∷ of_filter mean_of30 ∷ of_others strangers_sync ∷ request_part request65535 ∷ request_part response65535 ∷ request_last stamp65535 ∷ of_others other_domain ∷ of_others delay_resp_for_stranger ∷ sync_part follow_up8 ∷ sync_last sync8 ∷ of_others announce ∷ sync_last sync9 ∷ request_part request0 ∷ request_part stamp0 ∷ request_last response0 ∷ []
+unfolding gather_from
+gathered = refl
+
+-- ---- what is measured, in order: raw 90, no mean being stored yet; raw 30, and half of what 90 is above it; raw 190, and less the mean; raw 90, and less the mean; raw 40, and half of what the last raw offset is above it
+
+pub measured : found measured_in (log_of happens (p, buffer) run) ≡ Measurement.Sync (ns 1000) (lasting 90) MaybeDuration.None ∷ Measurement.Delay (ns 2000) (lasting 30) (MaybeDuration.Some (lasting 30)) ∷ Measurement.Sync (ns 2100) (lasting 190) (MaybeDuration.Some (lasting 160)) ∷ Measurement.Sync (ns 3000) (lasting 90) (MaybeDuration.Some (lasting 60)) ∷ Measurement.Delay (ns 2500) (lasting 40) (MaybeDuration.Some (lasting 25)) ∷ []
+unfolding run_of happens buffer_after log_of found
+measured = refl
+
+-- the number of each answer
+pub numbers : found outcome_in (log_of happens (p, buffer) run) ≡ Outcome.Taken ∷ Outcome.Taken ∷ Outcome.Version ∷ Outcome.Taken ∷ Outcome.Taken ∷ Outcome.Taken ∷ Outcome.Taken ∷ Outcome.Taken ∷ Outcome.Taken ∷ Outcome.Taken ∷ Outcome.Taken ∷ Outcome.Foreign ∷ Outcome.Taken ∷ Outcome.Taken ∷ Outcome.Taken ∷ Outcome.Host ∷ Outcome.Taken ∷ Outcome.Taken ∷ Outcome.Taken ∷ []
+unfolding run_of happens buffer_after log_of found
+numbers = refl
+
+-- what is sent, in order: the first request, with the last id; the answer to the PDelayReq, of 54 bytes, and its follow-up; the second request, with the first id
+abbrev p_delay_resp : List ℕ
+p_delay_resp = message us two_step_flag 0 40 (Body.PDelayResp (wire_ns 1100) stranger)
+
+pub sent : (found sent_in (log_of happens (p, buffer) run) ≡ message us no_flag 0 65535 (Body.DelayReq (wire_ns 0)) ∷ p_delay_resp ∷ message us no_flag 0 40 (Body.PDelayRespFollowUp (wire_ns 1200) stranger) ∷ message us no_flag 0 0 (Body.DelayReq (wire_ns 0)) ∷ []) × (length p_delay_resp ≡ 54)
+unfolding run_of happens buffer_after log_of found
+sent = (refl, refl)
+
+-- ---- the run meets what demand 3 asks: each event of an exchange is what its bytes read as, from whom and with which id
+
+pub from_master : {id : ℕ} {h : Header} → h.source ≡ master → h.id ≡ id → FromMaster master id h
+from_master s i = record { source = s; same_id = i }
+
+-- two pieces, in their order and in the other
+module _ {l : Lane} {Of : Piece → Event → Type 0} {p q : Piece} {e f : Event} where
+  pub as_listed : Of p e → Of q f → InAnyOrder l Of (p ∷ q ∷ []) (placed (within l (a_part new)) e ∷ placed (within l (the_last in_full)) f ∷ [])
+  as_listed a b = firstly p (p ∷ q ∷ []) (q ∷ []) e _ (this_one p (q ∷ [])) a (lastly q f b)
+
+  pub the_other_way : Of q e → Of p f → InAnyOrder l Of (p ∷ q ∷ []) (placed (within l (a_part new)) e ∷ placed (within l (the_last in_full)) f ∷ [])
+  the_other_way b a = firstly q (p ∷ q ∷ []) (p ∷ []) e _ (one_behind q p (q ∷ []) [] (this_one q [])) b (lastly p f a)
+
+pub not_master : Not (stranger ≡ master)
+not_master e = true≢false (ap (λ (i : Identity). eqb i.port 0x595A) (sym e))
+
+pub not_us : Not (stranger ≡ us)
+not_us e = true≢false (ap (λ (i : Identity). eqb i.port 0x3839) (sym e))
+
+abbrev pub exchange7 : List (Item Event)
+exchange7 = sync_part sync7 ∷ sync_last follow_up7 ∷ []
+
+abbrev pub exchange8 : List (Item Event)
+exchange8 = sync_part follow_up8 ∷ sync_last sync8 ∷ []
+
+abbrev pub exchange9 : List (Item Event)
+exchange9 = sync_last sync9 ∷ []
+
+-- the sync exchanges, whatever the mechanism is
+module _ (m : Mechanism) where
+  whole7 : SyncExchange (set_up m 10).config master exchange7
+  unfolding run_of
+  whole7 =
+      record { id = 7; two = true; events = as_listed (OfSync.a_sync _ _ _ _ _ refl (from_master refl refl) refl) (OfSync.a_follow_up _ _ _ _ refl (from_master refl refl)) }
+
+  whole8 : SyncExchange (set_up m 10).config master exchange8
+  unfolding run_of
+  whole8 =
+      record { id = 8; two = true; events = the_other_way (OfSync.a_follow_up _ _ _ _ refl (from_master refl refl)) (OfSync.a_sync _ _ _ _ _ refl (from_master refl refl) refl) }
+
+  whole9 : SyncExchange (set_up m 10).config master exchange9
+  unfolding run_of
+  whole9 = record { id = 9; two = false; events = lastly the_sync sync9 (OfSync.a_sync _ _ _ _ _ refl (from_master refl refl) refl) }
+
+  pub syncs_whole : SyncExchanges (set_up m 10).config master (exchange7 ∷ exchange8 ∷ exchange9 ∷ [])
+  unfolding SyncExchanges
+  syncs_whole = (whole7, (whole8, (whole9, tt)))
+
+-- the request exchanges, with their answers
+abbrev answers65535 : List (Item Event)
+answers65535 = request_part response65535 ∷ request_last stamp65535 ∷ []
+
+abbrev answers0 : List (Item Event)
+answers0 = request_part stamp0 ∷ request_last response0 ∷ []
+
+whole65535 : RequestExchange p.config master 65535 (request_part request65535 ∷ answers65535)
+unfolding run_of
+whole65535 =
+    RequestExchange.asked _ answers65535 (the_other_way (OfDelay.a_delay_resp _ _ _ _ _ refl (from_master refl refl) refl) (OfDelay.a_delay_stamp _))
+
+whole0 : RequestExchange p.config master 0 (request_part request0 ∷ answers0)
+unfolding run_of
+whole0 =
+    RequestExchange.asked _ answers0 (as_listed (OfDelay.a_delay_stamp _) (OfDelay.a_delay_resp _ _ _ _ _ refl (from_master refl refl) refl))
+
+-- what stands between them, in its order
+others : AllStand p.config master NothingElse 65535 run
+unfolding run_of AllStand row4 row5 row6 row8
+others =
+    (Foreign.unheard _ refl refl, (Foreign.a_p_delay_req _ _ _ _ refl, (Foreign.a_p_delay_resp_stamp _ _ _, (FilterAnswer.a_filter_answer _, (Foreign.other_sync _ _ _ _ refl not_master, (Foreign.unheard _ refl refl, (Foreign.delay_resp_for_other _ _ _ _ _ refl not_us, (Foreign.unheard _ refl refl, tt))))))))
+
+pub woven : Woven NothingElse p (slave_of master) buffer run
+unfolding run_of happens buffer_after log_of lane joined Each RequestExchanges small all_small
+woven =
+    record {
+      sync_exchanges = exchange7 ∷ exchange8 ∷ exchange9 ∷ [];
+      sync_events = refl;
+      syncs_whole = syncs_whole Mechanism.EndToEnd;
+      request_exchanges = (request_part request65535 ∷ answers65535) ∷ (request_part request0 ∷ answers0) ∷ [];
+      request_events = refl;
+      requests_whole = (whole65535, (whole0, tt));
+      others = others;
+      bytes = all_bytes run refl;
+      taken = (refl, (refl, (tt, (refl, (tt, (refl, (tt, (refl, (refl, (tt, (refl, (tt, (refl, (tt, (refl, (tt, (refl, (refl, (refl, tt)))))))))))))))))));
+    }
+
+-- so demand 3 holds of it
+pub holds : Undisturbed p buffer run
+holds =
+    undisturbed p (slave_of master) (record { slave = refl; no_sync = refl; no_delay = refl; no_peer = refl }) buffer run woven
+
+-- ---- what no exchange is made of brings no time: on either entry a request; on the general one a Sync and a PDelayResp; the stamp of a Sync, and of a PDelayResp; timers, filter answers, states
+pub bring_nothing : (c : Config) (t : Time) (h : Header) (w : WireTimestamp) (i : Identity) (id : ℕ) (u : FilterUpdate) (s : NewState) → (event_times t h (Body.DelayReq w) ≡ no_times) × (event_times t h (Body.PDelayReq w) ≡ no_times) × (later_times h (Body.Sync w) ≡ no_times) × (later_times h (Body.DelayReq w) ≡ no_times) × (later_times h (Body.PDelayReq w) ≡ no_times) × (later_times h (Body.PDelayResp w i) ≡ no_times) × (stamp_times t (Context.Sync id) ≡ no_times) × (stamp_times t (Context.PDelayResp id i) ≡ no_times) × (times_in c sync_timer ≡ no_times) × (times_in c (filter_answer u) ≡ no_times) × (times_in c (set_state s) ≡ no_times)
+unfolding times_in
+bring_nothing c t h w i id u s = (refl, refl, refl, refl, refl, refl, refl, refl, refl, refl, refl)
+
+-- two are not one
+pub two_not_single : Single {M = ℕ} (0 ∷ 1 ∷ []) → ⊥
+two_not_single s = s

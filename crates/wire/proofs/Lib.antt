@@ -1,0 +1,2 @@
+-- Laws of what specs/ defines, for the crates above to cite.
+pub mod LayoutLaws
