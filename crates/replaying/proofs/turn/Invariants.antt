@@ -1,5 +1,5 @@
 use Rattle.std.proofs.Common.{◌≡◌, ◌-◌, length}
-use Rattle.replaying.proofs.TurnLaws.{Going}
+use Rattle.replaying.specs.TurnLaws.{Going}
 use Rattle.replaying.proofs.turn.Given as goal
 
 abbrev pub invariant-loop-out : goal.invariant-loop-out
