@@ -1,6 +1,6 @@
 #!/usr/bin/env python3
-"""Of the older Rattle kit: with today's, 'rt check --start F --allow-holes' in a crate's folder stands for this. It prints
-the goals of a function F that has no proof file, and the names that they can cite.
+"""Of the older Rattle kit: with today's, 'rt check --start F --allow-holes' in a crate's folder stands for this. It writes
+the first proof files of a function F that has none, and prints its goals and the names that they can cite.
 
 The places of a function's proof, and the path to each from where a fact is wanted.
 
