@@ -14,13 +14,7 @@ use Rattle.event_log.specs.declared.Found.{Found}
 use Rattle.event_log.specs.declared.Next.{Next}
 use Rattle.event_log.specs.Fields.{inner_of, needed, exactly, perhaps, ends, context_at, state_at, stamp_found, state_found, event_of, general_of, stamp_of, sync_timer_of, delay_timer_of, update_of}
 use Rattle.event_log.specs.Fields.{filter_of, set_state_of, config_of, field_of, stated_of, possible, seen, none_of, cut_of, front_of}
-
--- ---- inner fields
-
--- what is known of an inner field that was found
-abbrev Lies : ℕ → ℕ → Inner → Type 0
-Lies at e Inner.No = Unit {0}
-Lies at e (Inner.At a n) = (a ≡ at + 3) × (a + n ≤ e)
+use Rattle.event_log.specs.FieldsLaws.{Lies}
 
 lies_by : (at n e : ℕ) (b t : Bool) → (b ≡ true → at + 3 + n ≤ e) → Lies at e (cond b (cond t (Inner.At (at + 3) n) Inner.No) Inner.No)
 lies_by at n e true true h = (refl, h refl)

@@ -10,7 +10,7 @@ use Rattle.event_log.specs.Fields.{time_at, duration_at, inner_of, state_at, eve
 use Rattle.streaming.specs.Log.{scan_from, scan, gathered, read_log}
 use Rattle.lines.specs.declared.Style.{Style}
 use Rattle.recording.specs.Recording.{field_bytes, state_bytes, config_bytes, event_bytes}
-use Rattle.recording.proofs.ReadsBack.{events_bytes}
+use Rattle.recording.specs.ReadsBack.{events_bytes}
 use Rattle.replaying.specs.Replay.{last_of, lines_for, lines_of, replay_lines}
 use Rattle.text.specs.Ascii.{text_of}
 use Rattle.examples.specs.Marked.{written}

@@ -10,8 +10,8 @@ use Rattle.sent.specs.Messages.{no_flag}
 use Rattle.rules.specs.Names.{Mechanism, NewState, Port}
 use Rattle.rules.specs.Events.{Event, event, general, sync_timer, delay_timer, set_state}
 use Rattle.rules.specs.Running.{us, master, ns, set_up, two_step_sync_of, one_step_sync_of, follow_up_at}
-use Rattle.rules.proofs.Examples.{delay_resp_from, request_stamped, last_ids}
-use Rattle.rules.proofs.ExamplesPeer.{asker, asked, answer, answer_follow_up, early, later}
+use Rattle.rules.specs.Examples.{delay_resp_from, request_stamped, last_ids}
+use Rattle.rules.specs.ExamplesPeer.{asker, asked, answer, answer_follow_up, early, later}
 
 pub record Case : Type 0 where
   pub start : Port

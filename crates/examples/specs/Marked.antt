@@ -12,7 +12,8 @@ use Rattle.lines.specs.declared.Style.{Style}
 use Rattle.lines.specs.Lines.{maybe_time, maybe_duration, maybe_identity, shown_of, context_text, link_text, action_text, reset_text, line_with, exchange_text, peer_text, slave_texts, end_line, last_line}
 use Rattle.recording.specs.Recording.{field_bytes, context_bytes, state_bytes, config_bytes, event_bytes}
 use Rattle.recording.specs.Fitting.{ConfigIn}
-use Rattle.recording.proofs.ReadsBack.{events_bytes, Recordable, log_reads_back}
+use Rattle.recording.specs.ReadsBack.{events_bytes, Recordable}
+use Rattle.recording.proofs.ReadsBack.{log_reads_back}
 use Rattle.replaying.specs.Replay.{results_from, record_after, numbered, last_of, lines_for, lines_of, replay_lines}
 use Rattle.text.specs.Ascii.{text_of}
 use Rattle.examples.specs.Cases.{Case, cases, logs}

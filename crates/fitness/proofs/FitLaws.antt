@@ -17,46 +17,7 @@ use Rattle.record.specs.declared.Port.{Port}
 use Rattle.record.specs.Record.{port_of}
 use Rattle.fitness.specs.Fit.{held_time, times_in, slave_times, peer_times, time_out, any_out, interval_out, sdo_out, minor_out, timeless, unanswered, full, peer_full, sync_timeless, slave_full, config_out, unfit}
 use Rattle.record.specs.JoinedLaws.{all_false, none_true}
-
--- ---- a fit record, part by part
-
--- a time that is held is one
-abbrev pub FitTime : MaybeTime → Type 0
-FitTime MaybeTime.None = Unit {0}
-FitTime (MaybeTime.Some t) = in_time (time t) ≡ true
-
--- a sync exchange that is open has one time, and not the other
-abbrev pub FitSync : Exchange → Type 0
-FitSync Exchange.Empty = Unit {0}
-FitSync (Exchange.Measuring id MaybeTime.None MaybeTime.None) = ⊥
-FitSync (Exchange.Measuring id MaybeTime.None (MaybeTime.Some r)) = in_time (time r) ≡ true
-FitSync (Exchange.Measuring id (MaybeTime.Some s) MaybeTime.None) = in_time (time s) ≡ true
-FitSync (Exchange.Measuring id (MaybeTime.Some s) (MaybeTime.Some r)) = ⊥
-
--- a delay exchange that is open has at most one time
-abbrev pub FitDelay : Exchange → Type 0
-FitDelay Exchange.Empty = Unit {0}
-FitDelay (Exchange.Measuring id MaybeTime.None MaybeTime.None) = Unit {0}
-FitDelay (Exchange.Measuring id MaybeTime.None (MaybeTime.Some r)) = in_time (time r) ≡ true
-FitDelay (Exchange.Measuring id (MaybeTime.Some s) MaybeTime.None) = in_time (time s) ≡ true
-FitDelay (Exchange.Measuring id (MaybeTime.Some s) (MaybeTime.Some r)) = ⊥
-
-abbrev pub FitState : PortState → Type 0
-FitState PortState.Listening = Unit {0}
-FitState PortState.Master = Unit {0}
-FitState PortState.Passive = Unit {0}
-FitState PortState.Faulty = Unit {0}
-FitState (PortState.Slave s) = FitSync s.sync × FitDelay s.delay
-
-pub record FitPeer (q : PeerState) : Type 0 where
-  pub in_limits : any_out (peer_times q) ≡ false
-  pub responder_known : unanswered q ≡ false
-  pub not_full : peer_full q ≡ false
-
-pub record IsFit (p : Port) : Type 0 where
-  pub config : config_out p.config ≡ false
-  pub state : FitState p.state
-  pub peer : FitPeer p.peer
+use Rattle.fitness.specs.FitLaws.{FitTime, FitSync, FitDelay, FitState, IsFit, FitConfig, row_clauses}
 
 -- ---- times
 
@@ -148,14 +109,6 @@ module _ (id : ℕ) (o : MaybeIdentity) (a b c d : MaybeTime) where
       (none_joined (held_time a ++ held_time b) (held_time c) (none_joined (held_time a) (held_time b) (held_when a x) (held_when b y)) (held_when c z))
       (held_when d w)
 
--- ---- the configuration
-
-pub record FitConfig (c : Config) : Type 0 where
-  pub delay : in_interval (interval c.delay_interval) ≡ true
-  pub sync : in_interval (interval c.sync_interval) ≡ true
-  pub sdo : c.sdo < 4096
-  pub minor : c.minor < 2
-
 interval_in : (byte : ℕ) → interval_out byte ≡ false → in_interval (interval byte) ≡ true
 unfolding interval_out
 interval_in byte e = not-false (in_interval (interval byte)) e
@@ -183,13 +136,6 @@ pub config_when : (c : Config) → FitConfig c → config_out c ≡ false
 unfolding config_out interval_out sdo_out minor_out
 config_when c f =
     simp (f.delay, f.sync, le-ltb 4095 c.sdo (omega (arith, f.sdo)), le-ltb 1 c.minor (omega (arith, f.minor)))
-
--- ---- the record
-
--- row 2, with the times of a Slave's exchanges and of the peer exchange apart
-abbrev row_clauses : Port → List Bool
-row_clauses p =
-    any_out (peer_times p.peer) ∷ config_out p.config ∷ sync_timeless p.state ∷ unanswered p.peer ∷ slave_full p.state ∷ peer_full p.peer ∷ []
 
 pub unfit_parts : (p : Port) → unfit p ≡ (any_out (slave_times p.state) || any_out (peer_times p.peer) || config_out p.config || sync_timeless p.state || unanswered p.peer || slave_full p.state || peer_full p.peer)
 unfolding unfit

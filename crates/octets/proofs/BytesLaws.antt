@@ -6,6 +6,7 @@ use Rattle.std.proofs.Math.ListN.{get_or-append}
 use Rattle.std.proofs.lemmas.List.Edits.{sets, sets-eq}
 use Rattle.std.proofs.lemmas.List.{set_comm, get_or_at}
 use Rattle.octets.specs.Bytes.{Entry, number, spell, put, puts, bytes_of, tiles, size_of, roomy, field_at, Bytes}
+use Rattle.octets.specs.BytesLaws.{Fits, Reads}
 
 below : (v b : ℕ) → v < b * 256 → v / 256 < b
 below v b h = omega arith
@@ -78,11 +79,6 @@ number-spell (suc w) v h =
     let i : 0 + w ≤ length (spell w (v / 256)) = omega arith in
     rw (number_inside (spell w (v / 256)) (v % 256 ∷ []) 0 w i, number-spell w (v / 256) d, zero-add, get_or_at (spell w (v / 256)) (v % 256) [] 0 w n) (div-add-mod' v 256)
 
--- each value fits its place
-abbrev pub Fits : List Entry → Type 0
-Fits [] = Unit {0}
-Fits (e ∷ es) = (e.value < 256 ^ e.place.width) × Fits es
-
 pub roomy_fits : (es : List Entry) → roomy es ≡ true → Fits es
 unfolding roomy
 roomy_fits [] h = tt
@@ -94,11 +90,6 @@ pub fits_roomy : (es : List Entry) → Fits es → roomy es ≡ true
 unfolding roomy
 fits_roomy [] f = refl
 fits_roomy (e ∷ es) (f, fs) = simp (lt-ltb e.value (256 ^ e.place.width) f, fits_roomy es fs)
-
--- at each place of l stands the entry's value
-abbrev pub Reads : List Entry → List ℕ → Type 0
-Reads [] l = Unit {0}
-Reads (e ∷ es) l = (field_at e.place l ≡ e.value) × Reads es l
 
 pub fits_parts : (a b : List Entry) → Fits (a ++ b) → Fits a × Fits b
 fits_parts [] b f = (tt, f)

@@ -13,7 +13,8 @@ use Rattle.rules.specs.Table.{row1, row3}
 use Rattle.rules.specs.Step.{rule_of, step}
 use Rattle.rules.proofs.RefusalLaws.{step_rule}
 use Rattle.rules.specs.Given.{BytesIn, ContextIn, PortIn, InTypes}
-use Rattle.rules.proofs.WritableLaws.{Writable, sent_writable}
+use Rattle.rules.specs.WritableLaws.{Writable}
+use Rattle.rules.proofs.WritableLaws.{sent_writable}
 use Rattle.handling.specs.declared.Handled.{Handled}
 use Rattle.handling.specs.Handling.{maybe_message, handed_on, turned_down, handled_of}
 use Rattle.rows.specs.declared.Gate.{Gate}

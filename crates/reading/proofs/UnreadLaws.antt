@@ -20,11 +20,7 @@ use Rattle.reading.specs.Reading.{row4, row5, timed, message_of, decoded, read_o
 use Rattle.octets.proofs.BytesLaws.{neither, number_same, number_inside}
 use Rattle.wire.proofs.LayoutLaws.{row_bounds}
 use Rattle.reading.specs.ReadingLaws.{past_row5}
-
--- byte i lies in none of the places, as facts
-abbrev pub Outside : List Place → ℕ → Type 0
-Outside [] i = Unit {0}
-Outside (p ∷ ps) i = (p.at ≤ i → i < p.at + p.width → ⊥) × Outside ps i
+use Rattle.reading.specs.UnreadLaws.{Outside, Agree, Alike}
 
 lies_outside : (ps : List Place) (i : ℕ) → lies ps i ≡ false → Outside ps i
 lies_outside [] i e = tt
@@ -79,12 +75,6 @@ header_same l m e =
     let source : identity_at 20 l ≡ identity_at 20 m = identity_same 20 l m (λ i a b. e i (omega arith) (λ c d. omega arith) (λ c d. omega arith)) in
     simp (front 0 1 (lit≤ tt), front 1 1 (lit≤ tt), front 2 2 (lit≤ tt), front 4 1 (lit≤ tt), front 5 1 (lit≤ tt), front 6 2 (lit≤ tt), front 8 8 (lit≤ tt), source, back 30 2 (lit≤ tt) (lit≤ tt), last)
 
--- ---- the kinds: what is read of a header, and of a body
-
--- l and m have the same bytes where a message of this kind is read
-abbrev pub Agree : Kind → List ℕ → List ℕ → Type 0
-Agree k l m = (i : ℕ) → unread_at k i ≡ false → get_or l i 0 ≡ get_or m i 0
-
 to_header : (k : Kind) → 34 ≤ read_to k
 to_header (K.Table t) = omega (arith, (row_bounds t).stamped)
 to_header K.Host = lit≤ tt
@@ -133,12 +123,6 @@ unfolding message_of
 decoded_same (K.Table t) l m e = λ j. timed (time_of_wire (stamp_read t l m e j)) (header_read (K.Table t) l m e j) (body_read t l m e j)
 decoded_same K.Host l m e = ap G.Host (header_read K.Host l m e)
 decoded_same K.Reserved l m e = refl
-
--- ---- the whole
-
--- all that the rows ask of a length: whether it is below 2, 34 and the stated length
-abbrev Alike : ℕ → ℕ → ℕ → Type 0
-Alike stated a b = (ltb a 2 ≡ ltb b 2) × (ltb a 34 ≡ ltb b 34) × (ltb a stated ≡ ltb b stated)
 
 module _ (l m : List ℕ) (n : Alike (field_at message_length l) (length l) (length m)) (first : (i : ℕ) → i < 4 → get_or l i 0 ≡ get_or m i 0) where
   start : (at w : ℕ) → at + w ≤ 4 → number at w l ≡ number at w m

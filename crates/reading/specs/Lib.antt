@@ -3,3 +3,4 @@ pub mod Reading
 pub mod Unread
 pub mod Numbers
 pub mod ReadingLaws
+pub mod UnreadLaws

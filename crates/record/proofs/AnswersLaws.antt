@@ -9,6 +9,7 @@ use Rattle.record.specs.declared.Measurement.{Measurement}
 use Rattle.record.specs.declared.MaybeMeasurement.{MaybeMeasurement}
 use Rattle.record.specs.declared.Action.{Action}
 use Rattle.record.specs.Answers.{number_of, places, first_actions, answer_of, taken_with, with_measurement, with_reset, with_length, with_action}
+use Rattle.record.specs.AnswersLaws.{outcome_of}
 
 pub actions_back : (as' : List Action) → length as' ≤ 2 → first_actions (length as') (places as') ≡ as'
 unfolding places
@@ -52,19 +53,6 @@ one_action p x = refl
 pub two_actions : (p : Port) (x y : Action) → with_action (with_action (taken_with p) x) y ≡ answer_of Outcome.Taken p MaybeMeasurement.None 0 (x ∷ y ∷ []) false
 unfolding with_action answer_of places
 two_actions p x y = refl
-
--- ---- numbers
-
-abbrev outcome_of : ℕ → Outcome
-outcome_of n =
-    cond (eqb n 0) Outcome.Taken
-    (cond (eqb n 1) Outcome.Buffer
-    (cond (eqb n 2) Outcome.Unfit
-    (cond (eqb n 3) Outcome.Limits
-    (cond (eqb n 4) Outcome.Version
-    (cond (eqb n 5) Outcome.Malformed
-    (cond (eqb n 6) Outcome.Foreign
-    (cond (eqb n 8) Outcome.Host Outcome.Range)))))))
 
 outcome_back : (o : Outcome) → outcome_of (number_of o) ≡ o
 outcome_back Outcome.Taken = refl

@@ -5,4 +5,5 @@ pub mod Same
 pub mod Answers
 pub mod JoinedLaws
 pub mod ExactLaws
+pub mod AnswersLaws
 pub mod Examples

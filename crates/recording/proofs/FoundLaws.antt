@@ -25,8 +25,10 @@ use Rattle.event_log.specs.Fields.{inner_of, time_at, duration_at, context_at, s
 use Rattle.event_log.proofs.FieldsLaws.{inner_short}
 use Rattle.recording.specs.Recording.{field_bytes, time_bytes, duration_bytes, identity_bytes, context_bytes, state_bytes, mean_bytes, next_bytes, mechanism_byte}
 use Rattle.recording.specs.Fitting.{TimeIn, MeanIn, NextIn, StateIn, ConfigIn}
-use Rattle.recording.proofs.RecordingLaws.{config_value, length_words, length_identity, length_field_of, length_mean, length_next, context_small, state_small}
-use Rattle.recording.proofs.StandsLaws.{Stands, stands_first, stands_then, stands_bytes, stands_number, stands_byte, stands_time, stands_duration, stands_identity, stands_value, stands_inner, stands_other}
+use Rattle.recording.specs.RecordingLaws.{config_value}
+use Rattle.recording.proofs.RecordingLaws.{length_words, length_identity, length_field_of, length_mean, length_next, context_small, state_small}
+use Rattle.recording.specs.StandsLaws.{Stands}
+use Rattle.recording.proofs.StandsLaws.{stands_first, stands_then, stands_bytes, stands_number, stands_byte, stands_time, stands_duration, stands_identity, stands_value, stands_inner, stands_other}
 
 -- ---- contexts and states
 

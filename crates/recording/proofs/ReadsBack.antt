@@ -19,27 +19,12 @@ use Rattle.streaming.proofs.StreamingLaws.{scan_at}
 use Rattle.recording.specs.Recording.{field_bytes, time_bytes, context_bytes, state_bytes, mean_bytes, next_bytes, config_bytes, event_bytes, recordable}
 use Rattle.recording.specs.Fitting.{Fitting, ConfigIn}
 use Rattle.recording.proofs.RecordingLaws.{length_timed, length_field, length_filter_value, length_draw, length-config_value, length-event, length-general, length-stamp, length-sync_timer, length-delay_timer, length_filter, length-set_state}
-use Rattle.recording.proofs.RecordingLaws.{config_value, length_config, context_small, state_small, mean_small, next_small}
-use Rattle.recording.proofs.StandsLaws.{Stands, stands_all, stands_value, front_field}
+use Rattle.recording.specs.RecordingLaws.{config_value}
+use Rattle.recording.proofs.RecordingLaws.{length_config, context_small, state_small, mean_small, next_small}
+use Rattle.recording.specs.StandsLaws.{Stands}
+use Rattle.recording.proofs.StandsLaws.{stands_all, stands_value, front_field}
 use Rattle.recording.proofs.FoundLaws.{event_found, event_message, general_found, general_message, stamp_found, sync_timer_found, delay_timer_found, filter_found, set_state_found, config_found}
-
--- ---- what is said
-
--- at the front of its bytes, whatever follows them, stands an event that is told as e, and it has all of them
-pub record ReadsBack (e : Event) (t : List ℕ) (last : Bool) : Type 0 where
-  pub found : Logged
-  pub front : front_of false (event_bytes e ++ t) last ≡ Next.Event found (length (event_bytes e))
-  pub same : told (event_bytes e) found ≡ e
-
--- events' bytes, one behind the other
-unfoldable pub events_bytes : List Event → List ℕ
-events_bytes [] = []
-events_bytes (e ∷ es) = event_bytes e ++ events_bytes es
-
--- each of them can be recorded, and its numbers are within their types
-abbrev pub Recordable : List Event → Type 0
-Recordable [] = Unit {0}
-Recordable (e ∷ es) = ((recordable e ≡ true) × Fitting e) × Recordable es
+use Rattle.recording.specs.ReadsBack.{ReadsBack, events_bytes, Recordable}
 
 -- ---- an event
 

@@ -19,6 +19,7 @@ use Rattle.rules.specs.Events.{event, general, stamp, sync_timer, delay_timer, f
 use Rattle.text.specs.Page.{Wrote}
 use Rattle.text.specs.PageLaws.{wrote_then, wrote_as, wrote_first}
 use Rattle.recording.specs.Recording.{field_bytes, time_bytes, duration_bytes, identity_bytes, context_bytes, state_bytes, mean_bytes, next_bytes, mechanism_byte, config_bytes, event_bytes, appended, left_after, Appends}
+use Rattle.recording.specs.RecordingLaws.{config_value}
 
 -- ---- a number, byte by byte
 
@@ -103,12 +104,6 @@ module _ {n : ℕ} where
 
   pub next_small : (m : MaybeNanoseconds) → n ≡ length (next_bytes m) → n ≤ 11
   next_small m h = omega (arith, h, next_most m)
-
--- ---- the values of the outer fields, and the fields
-
-abbrev pub config_value : Config → List ℕ
-config_value c =
-    identity_bytes c.identity ++ (spell 2 c.sdo ++ (c.domain ∷ c.minor ∷ mechanism_byte c.mechanism ∷ c.delay_interval ∷ c.sync_interval ∷ duration_bytes c.asymmetry))
 
 pub length-config_value : (c : Config) → length (config_value c) ≡ 33
 length-config_value c =

@@ -10,19 +10,13 @@ use Rattle.wire.specs.declared.Identity.{Identity}
 use Rattle.octets.specs.Bytes.{number, spell}
 use Rattle.octets.proofs.BytesLaws.{length-spell, number_past, number_inside, number-spell}
 use Rattle.wire.specs.Layout.{identity_at}
-use Rattle.wire.proofs.LayoutLaws.{InWidths}
+use Rattle.wire.specs.LayoutLaws.{InWidths}
 use Rattle.event_log.specs.declared.Inner.{Inner}
 use Rattle.event_log.specs.Fields.{inner_of, time_at, duration_at, field_of, stated_of, seen, front_of}
 use Rattle.event_log.proofs.FieldsLaws.{inner_is, inner_other, front_whole, number_one}
 use Rattle.recording.specs.Recording.{field_bytes, time_bytes, duration_bytes, identity_bytes}
 use Rattle.recording.proofs.RecordingLaws.{length_field}
-
--- l stands in f from the place `at` on
-pub record Stands (f : List ℕ) (at : ℕ) (l : List ℕ) : Type 0 where
-  pub before : List ℕ
-  pub behind : List ℕ
-  pub whole : f ≡ before ++ (l ++ behind)
-  pub place : length before ≡ at
+use Rattle.recording.specs.StandsLaws.{Stands}
 
 -- ---- parts
 

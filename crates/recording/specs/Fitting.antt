@@ -3,7 +3,7 @@
 use Rattle.std.specs.Prelude.{◌^◌, ◌<◌}
 use Rattle.time.specs.declared.Time.{Time}
 use Rattle.time.specs.declared.Duration.{Duration}
-use Rattle.wire.proofs.LayoutLaws.{InWidths}
+use Rattle.wire.specs.LayoutLaws.{InWidths}
 use Rattle.record.specs.declared.Config.{Config}
 use Rattle.record.specs.declared.MaybeDuration.{MaybeDuration}
 use Rattle.record.specs.declared.MaybeNanoseconds.{MaybeNanoseconds}

@@ -14,7 +14,8 @@ use Rattle.replaying.specs.declared.Stop.{Stop}
 use Rattle.replaying.specs.Replay.{answer_to}
 use Rattle.replaying.specs.Turns.{line_room, Run, stopped, after, run_over}
 use Rattle.replaying.specs.Sessions.{start_of, ahead, goes_on, session, Roomy, turns_for, WritesAll}
-use Rattle.replaying.proofs.RunLaws.{Steps, every}
+use Rattle.replaying.specs.RunLaws.{Steps}
+use Rattle.replaying.proofs.RunLaws.{every}
 use Rattle.replaying.proofs.SessionLaws.{session_writes}
 
 -- ---- what a turn comes to

@@ -22,14 +22,11 @@ use Rattle.replaying.specs.declared.Stop.{Stop}
 use Rattle.replaying.specs.Replay.{answer_to}
 use Rattle.replaying.specs.Turns.{opened, moved, Run, stopped, after, run_over}
 use Rattle.replaying.specs.Sessions.{start_of, ahead, goes_on, session, WritesTheLines}
-use Rattle.replaying.proofs.WritesLaws.{writes, writes_lines}
-use Rattle.replaying.proofs.RunLaws.{Steps, every}
-
--- ---- a state and the counts that it stands for
-
-pub record Tracks (q : State) (n at : ℕ) : Type 0 where
-  pub number : q.number ≡ n % 2 ^ 64
-  pub offset : q.offset ≡ at % 2 ^ 64
+use Rattle.replaying.specs.WritesLaws.{writes}
+use Rattle.replaying.proofs.WritesLaws.{writes_lines}
+use Rattle.replaying.specs.RunLaws.{Steps}
+use Rattle.replaying.proofs.RunLaws.{every}
+use Rattle.replaying.specs.SessionLaws.{Tracks}
 
 tracks_opened : (q : State) (n at k : ℕ) (c : Config) → Tracks q n at → Tracks (opened q c k) n (at + k)
 tracks_opened q n at k c t =

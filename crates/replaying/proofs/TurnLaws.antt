@@ -12,6 +12,7 @@ use Rattle.replaying.specs.declared.one.Went.{Went}
 use Rattle.octets.proofs.BytesLaws.{apart}
 use Rattle.replaying.specs.Turns.{line_room, Run, stopped, after, run_of, Turned, Leaves}
 use Rattle.replaying.specs.OneLaws.{One}
+use Rattle.replaying.specs.TurnLaws.{Goes, Going}
 
 -- ---- runs put together
 
@@ -31,19 +32,6 @@ full_run style p room (next e n l) h = simp (lt-ltb room 1024 h)
 full_run style p room good h = simp (lt-ltb room 1024 h)
 full_run style p room (bad n) h = simp (lt-ltb room 1024 h)
 full_run style p room (rest n f u) h = simp (lt-ltb room 1024 h)
-
--- ---- between two fields: w was written, and the run goes on from place i with the state p
-
-pub record Goes (style : Style) (q : State) (s : List ℕ) (last : Bool) (d d' : List ℕ) (p : State) (i to : ℕ) (w : List ℕ) : Type 0 where
-  pub run : (at : ℕ) → run_of style q (length d) (scan last q.first at s) ≡ after w i (run_of style p (length d - length w) (scan last p.first (at + i) (drop i s)))
-  pub wrote : Wrote d 0 w d' to
-  pub place : to ≡ length w
-  pub room : length w ≤ length d
-  pub read : i ≤ length s
-  pub same : length d' ≡ length d
-
-abbrev pub Going : Style → State → List ℕ → Bool → List ℕ → List ℕ → State → ℕ → ℕ → Type 0
-Going style q s last d d' p i to = (w : List ℕ) × Goes style q s last d d' p i to w
 
 pub going_start : (style : Style) (q : State) (s : List ℕ) (last : Bool) (d : List ℕ) → Going style q s last d d q 0 0
 going_start style q s last d = (

@@ -4,3 +4,7 @@ pub mod Turns
 pub mod Sessions
 pub mod OneLaws
 pub mod AnsweringLaws
+pub mod TurnLaws
+pub mod RunLaws
+pub mod WritesLaws
+pub mod SessionLaws

@@ -16,20 +16,14 @@ use Rattle.rules.specs.Measuring.{settle, sync_out, delay_out, peer_out}
 use Rattle.rules.specs.Rules.{sender_of, filtered, mean_given, update_given, state_set, state_of}
 use Rattle.rules.specs.Step.{rule_of, step}
 use Rattle.rules.specs.Actions.{is_empty, one_is, timers_first, packets_in, is_one_of, sending_of, packet_for}
-use Rattle.rules.proofs.AllLaws.{Silent, All, all_is}
+use Rattle.rules.specs.AllLaws.{Silent, All}
+use Rattle.rules.proofs.AllLaws.{all_is}
 use Rattle.rules.proofs.RuleLaws.{all_settle}
-use Rattle.rules.proofs.EveryLaws.{silent, Every, every_rule}
-use Rattle.rules.proofs.RefusalLaws.{IsTaken, step_has}
-
--- ---- order
-
-pub record Orderly (r : Result) : Type 0 where
-  pub at_most_two : length r.actions ≤ 2
-  pub has_timers_first : timers_first r.actions ≡ true
-  pub none_empty : one_is is_empty r.actions ≡ false
-  -- one packet where something is sent, and none where nothing is
-  pub packet_when_sent : length (packets_in r.actions) ≡ cond (eqb (length r.sent) 0) 0 1
-  pub sizes : is_one_of (0 ∷ 44 ∷ 54 ∷ []) (length r.sent) ≡ true
+use Rattle.rules.specs.EveryLaws.{Every}
+use Rattle.rules.proofs.EveryLaws.{silent, every_rule}
+use Rattle.rules.specs.RefusalLaws.{IsTaken}
+use Rattle.rules.proofs.RefusalLaws.{step_has}
+use Rattle.rules.specs.ActionLaws.{Orderly, Said, said_of}
 
 -- a message is 44 or 54 bytes long
 body_size : (b : Body) → (is_one_of (0 ∷ 44 ∷ 54 ∷ []) (row (type_of b)).length ≡ true) × (eqb (row (type_of b)).length 0 ≡ false)
@@ -109,14 +103,6 @@ module _ (p : Port) where
 
 pub actions_orderly : (p : Port) (room : ℕ) (e : Event) → Orderly (step p room e)
 actions_orderly p room e = step_has p room e Orderly (unsent p) (λ f l. every_rule (Ordered p) Silent p (each p) e)
-
--- ---- the packet that goes out is the sent message's: event or general, its context, link-local or not
-
-abbrev Said : Done → Type 0
-Said d = packets_in d.actions ≡ packet_for d.message
-
-abbrev said_of : Message → Action
-said_of m = sending_of m.header m.body
 
 -- what each message that carries a stamp says
 module _ (s : Sender) (t : Time) (m : Message) where

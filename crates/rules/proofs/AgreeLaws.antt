@@ -9,11 +9,8 @@ use Rattle.rules.specs.Events.{Done}
 use Rattle.rules.specs.Measuring.{less_mean, half_below}
 use Rattle.rules.specs.WorkedOut.{Number, ◌∋◌, times, durations, outside, if_there}
 use Rattle.rules.specs.Formulas.{GivenBy}
-use Rattle.rules.proofs.AllLaws.{All}
-
-abbrev pub Agrees : List Number → (Done → Type 0) → Worked Done → Type 0
-Agrees ns Says (worked d) = (outside ns ≡ false) × Says d
-Agrees ns Says (refused o) = (o ≡ Outcome.Range) × (outside ns ≡ true)
+use Rattle.rules.specs.AllLaws.{All}
+use Rattle.rules.specs.AgreeLaws.{Agrees}
 
 -- what is worked out says it
 pub agrees_all : (ns : List Number) (Says : Done → Type 0) (w : Worked Done) → Agrees ns Says w → All Says w

@@ -10,21 +10,7 @@ use Rattle.rules.specs.Events.{Done, changed}
 use Rattle.rules.specs.Measuring.{complete, peer_complete, settle}
 use Rattle.rules.specs.Exchanges.{Change, stays, becomes, awaited}
 use Rattle.rules.specs.Rules.{keeping}
-
--- what is worked out has P, and what refuses has R
-abbrev pub Comes : {A : Type 0} → (A → Type 0) → (Outcome → Type 0) → Worked A → Type 0
-Comes P R (worked a) = P a
-Comes P R (refused o) = R o
-
--- of a refusal nothing is said, and of what is worked out nothing
-abbrev pub Silent : Outcome → Type 0
-Silent o = Unit {0}
-
-abbrev pub Anything : {A : Type 0} → A → Type 0
-Anything a = Unit {0}
-
-abbrev pub All : {A : Type 0} → (A → Type 0) → Worked A → Type 0
-All P w = Comes P Silent w
+use Rattle.rules.specs.AllLaws.{Comes, Anything, All, peer_done}
 
 -- what all of them have, one of them has
 pub all_is : {A : Type 0} (P : A → Type 0) (R : Outcome → Type 0) (w : Worked A) (a : A) → w ≡ worked a → Comes P R w → P a
@@ -38,10 +24,6 @@ all_fill P R (refused o) f h = f o
 pub all_map : {A : Type 0} (P Q : A → Type 0) (R : Outcome → Type 0) (w : Worked A) → ((a : A) → P a → Q a) → Comes P R w → Comes Q R w
 all_map P Q R (worked a) f h = f a h
 all_map P Q R (refused o) f h = h
-
--- a peer exchange with all its times and its responder
-abbrev pub peer_done : PeerState → Bool
-peer_done q = peer_complete q false (λ id i a b c d. true)
 
 module _ {A : Type 0} (P : A → Type 0) (R : Outcome → Type 0) where
   -- ---- what comes next, with the equation of what came first

@@ -11,17 +11,12 @@ use Rattle.rules.specs.Rules.{filtered, mean_given, state_set, state_of}
 use Rattle.rules.specs.WorkedOut.{sync_in, delay_in, last_raw}
 use Rattle.rules.specs.Changes.{request_ids, ids_after, last_given, mean_after}
 use Rattle.rules.specs.Step.{rule_of, step}
-use Rattle.rules.proofs.AllLaws.{All, Silent}
+use Rattle.rules.specs.AllLaws.{All, Silent}
 use Rattle.rules.proofs.RuleLaws.{all_settle, all_sync_timer_ends, all_delay_timer_ends}
-use Rattle.rules.proofs.EveryLaws.{silent, Heard, heard_event_rule, heard_general_rule, heard_stamp_rule}
+use Rattle.rules.specs.EveryLaws.{Heard}
+use Rattle.rules.proofs.EveryLaws.{silent, heard_event_rule, heard_general_rule, heard_stamp_rule}
 use Rattle.rules.proofs.RefusalLaws.{taken_has}
-
--- ---- configuration, ids and mean delay
-
-pub record Follows (p : Port) (e : Event) (q : Port) : Type 0 where
-  pub config : q.config ≡ p.config
-  pub ids : q.ids ≡ ids_after p e
-  pub mean : q.mean ≡ mean_after p e
+use Rattle.rules.specs.ChangeLaws.{Follows, IsSet, BeginsAsSlave}
 
 module _ (p : Port) (e : Event) where
   abbrev Following : Done → Type 0
@@ -98,19 +93,6 @@ module _ (p : Port) (room : ℕ) (e : Event) (t : (step p room e).outcome ≡ Ou
   pub mean_after_lem : (step p room e).port.mean ≡ mean_after p e
   mean_after_lem = follows.mean
 
--- ---- a state that is set
-
--- nothing else changes, and nothing is to be done but perhaps a reset
-pub record IsSet (p : Port) (new : NewState) (r : Result) : Type 0 where
-  pub state : r.port.state ≡ state_of new
-  pub peer : r.port.peer ≡ p.peer
-  pub mean : r.port.mean ≡ p.mean
-  pub ids : r.port.ids ≡ p.ids
-  pub config : r.port.config ≡ p.config
-  pub measurement : r.measurement ≡ MaybeMeasurement.None
-  pub sent : r.sent ≡ []
-  pub actions : r.actions ≡ []
-
 set_rule : (p : Port) (new : NewState) → All (λ d. IsSet p new (answered p (worked d))) (rule_of p (set_state new))
 unfolding rule_of state_set
 set_rule p new =
@@ -118,15 +100,6 @@ set_rule p new =
 
 pub state_set_lem : (p : Port) (room : ℕ) (new : NewState) → (step p room (set_state new)).outcome ≡ Outcome.Taken → IsSet p new (step p room (set_state new))
 state_set_lem p room new t = taken_has p room (set_state new) (IsSet p new) (λ f l. set_rule p new) t
-
--- how a Slave begins: its master, and nothing heard yet
-pub record BeginsAsSlave (master : Identity) (state : PortState) : Type 0 where
-  pub slave : SlaveState
-  pub state_is_slave : state ≡ PortState.Slave slave
-  pub master_is : slave.master ≡ master
-  pub no_sync : sync_in state ≡ Exchange.Empty
-  pub no_delay : delay_in state ≡ Exchange.Empty
-  pub no_raw : last_raw state ≡ MaybeDuration.None
 
 pub slave_begins : (p : Port) (room : ℕ) (master : Identity) → (step p room (set_state (NewState.Slave master))).outcome ≡ Outcome.Taken → BeginsAsSlave master (step p room (set_state (NewState.Slave master))).port.state
 slave_begins p room master t =

@@ -10,25 +10,15 @@ use Rattle.rules.specs.Worked.{Worked}
 use Rattle.rules.specs.Exchanges.{Change, stays, becomes, awaited, with_response, responded, responded_later, peer_stamped}
 use Rattle.rules.specs.WorkedOut.{Completed, unfinished, peer, Sums, no_sums, held, hears, opened, sync_in, delay_in, send_in, receive_in, peer_opened, request_send_in, request_receive_in, response_send_in, response_receive_in, sync_sums, follow_up_sums, delay_resp_sums, delay_stamp_sums}
 use Rattle.rules.specs.Changes.{is_peer}
-use Rattle.rules.proofs.AllLaws.{All, Silent, all_silent, all_awaited, peer_done}
-
--- ---- what a change completes
-
-abbrev pub becoming : Change PeerState → Bool
-becoming stays = false
-becoming (becomes x) = peer_done x
+use Rattle.rules.specs.AllLaws.{All, Silent, peer_done}
+use Rattle.rules.proofs.AllLaws.{all_silent, all_awaited}
+use Rattle.rules.specs.CompletingLaws.{becoming, response_completes, follow_up_completes, stamp_completes}
 
 stored : (is_open : Bool) (place : MaybeTime) (whole : Bool) (sum : Worked Time) (put : Time → PeerState) → ((t : Time) → peer_done (put t) ≡ whole) → All (λ c. becoming c ≡ (is_open && not (there place) && whole)) (awaited is_open place sum put)
 stored is_open place whole sum put f =
     all_awaited (λ c. becoming c ≡ (is_open && not (there place) && whole)) Silent is_open place sum put (all_silent sum)
     (λ e. ap (λ (b : Bool). b && whole) (sym e))
     (λ t e g. f t ∙ ap (λ (b : Bool). b && whole) (sym e))
-
--- the response
-abbrev pub response_completes : Header → PeerState → ℤ → ℤ → Completed
-response_completes h q body receive =
-    held (request_send_in q) (λ asked.
-    cond (two_step h) (held (response_send_in q) (λ send. peer asked body send receive)) (peer asked body body receive))
 
 response_whole : (two : Bool) (id : ℕ) (i : Identity) (a c : MaybeTime) (body t : Time) (y z : ℤ) → peer_done (PeerState.Measuring id (MaybeIdentity.Some i) a (MaybeTime.Some body) (cond two c (MaybeTime.Some body)) (MaybeTime.Some t)) ≡ is_peer (held a (λ asked. cond two (held c (λ send. peer asked y send z)) (peer asked y y z)))
 response_whole two id i MaybeTime.None c body t y z = refl
@@ -45,11 +35,6 @@ response_completes_lem h body sum (PeerState.Measuring id r a b c d) y z =
     (λ t. response_whole (two_step h) id h.source a c body t y z)
 response_completes_lem h body sum (PeerState.Measured id r) y z = refl
 
--- its follow-up
-abbrev pub follow_up_completes : PeerState → ℤ → Completed
-follow_up_completes q send =
-    held (request_send_in q) (λ asked. held (request_receive_in q) (λ came. held (response_receive_in q) (λ receive. peer asked came send receive)))
-
 follow_up_whole : (id : ℕ) (i : Identity) (a b d : MaybeTime) (t : Time) (z : ℤ) → peer_done (PeerState.Measuring id (MaybeIdentity.Some i) a b (MaybeTime.Some t) d) ≡ is_peer (held a (λ asked. held b (λ came. held d (λ receive. peer asked came z receive))))
 follow_up_whole id i MaybeTime.None b d t z = refl
 follow_up_whole id i (MaybeTime.Some a) MaybeTime.None d t z = refl
@@ -64,11 +49,6 @@ follow_up_completes_lem h sum (PeerState.Measuring id r a b c d) z =
     (λ t. PeerState.Measuring id (MaybeIdentity.Some h.source) a b (MaybeTime.Some t) d)
     (λ t. follow_up_whole id h.source a b d t z)
 follow_up_completes_lem h sum (PeerState.Measured id r) z = refl
-
--- the request's stamp: a fit record that holds all other times knows the responder
-abbrev pub stamp_completes : PeerState → ℤ → Completed
-stamp_completes q asked =
-    held (request_receive_in q) (λ came. held (response_send_in q) (λ send. held (response_receive_in q) (λ receive. peer asked came send receive)))
 
 stamp_whole : (id : ℕ) (r : MaybeIdentity) (a b c d : MaybeTime) (t : Time) (z : ℤ) → unanswered (PeerState.Measuring id r a b c d) ≡ false → peer_done (PeerState.Measuring id r (MaybeTime.Some t) b c d) ≡ is_peer (held b (λ came. held c (λ send. held d (λ receive. peer z came send receive))))
 stamp_whole id r a MaybeTime.None c d t z u = refl

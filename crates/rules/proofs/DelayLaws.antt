@@ -15,7 +15,8 @@ use Rattle.rules.specs.Exchanges.{Change, stays, becomes, delay_answered, delay_
 use Rattle.rules.specs.Rules.{keeping, delay_resp, stamped}
 use Rattle.rules.specs.WorkedOut.{Completed, unfinished, delay, opened, receive_in, send_in, held, corrected, no_sums, numbers_of, delay_resp_sums, stamp_sums}
 use Rattle.rules.proofs.AgreeLaws.{by_test, agrees_time, then_then}
-use Rattle.rules.proofs.MeasureLaws.{Judged, SumsJudged, delay_judged}
+use Rattle.rules.specs.MeasureLaws.{Judged, SumsJudged}
+use Rattle.rules.proofs.MeasureLaws.{delay_judged}
 use Rattle.rules.proofs.SettleLaws.{settle_delay}
 
 module _ (p : Port) (s : SlaveState) (q : peer_full p.peer ≡ false) (f : full s.sync ≡ false) where

@@ -15,24 +15,18 @@ use Rattle.sent.specs.declared.CorrectionAnswer.{CorrectionAnswer}
 use Rattle.sent.specs.declared.CorrectionAnswer.TheVariants as C
 use Rattle.sent.specs.declared.Carried.TheVariants as S
 use Rattle.sent.proofs.Laws.{correction_is}
-use Rattle.sent.proofs.CarriedLaws.{units_of, fraction_of, late_from, less_of, stamp_of, follow_room, answer_room, follow_timely, follow_out_when, answer_timely, answer_out_when}
+use Rattle.sent.specs.CarriedLaws.{units_of, fraction_of, late_from, less_of, stamp_of}
+use Rattle.sent.proofs.CarriedLaws.{follow_room, answer_room, follow_timely, follow_out_when, answer_timely, answer_out_when}
 use Rattle.sent.specs.Messages.{header_for, zero_timestamp, correction_of, with_correction, answer_stamp, follow_stamp, sync_of, follow_up_of, delay_req_of, delay_resp_of, p_delay_req_of, p_delay_resp_of, p_delay_resp_follow_up_of}
 use Rattle.sent.proofs.SentLaws.{sdo_sent, carrying_is}
 use Rattle.rules.specs.Names.{Body, Time, WireTimestamp, Header, Identity, Message, MessageAnswer, Config}
 use Rattle.rules.specs.Rules.{sender_of}
 use Rattle.rules.specs.Sending.{Carries, no_time, left, came, Due, own_due, answer_due, is_followed, flags_in, interval_in, ns_in, correction_in, requester_in, Sends, Fulfils}
+use Rattle.rules.specs.DueLaws.{Carrying, body_from}
 
 flag_read : (b : Bool) → eqb (cond b two_step_flag 0 / two_step_flag % 2) 1 ≡ b
 flag_read true = refl
 flag_read false = refl
-
--- ---- what is carried of a time
-
-record Carrying (x : Carries) (w : WireTimestamp) (correction : ℕ) : Type 0 where
-  seconds : w.seconds ≡ ns_in x / 10 ^ 9
-  nanos : w.nanos ≡ ns_in x % 10 ^ 9
-  correction_is : signed 64 correction ≡ correction_in x
-  fits : correction < 2 ^ 64
 
 no_time_lem : Carrying no_time zero_timestamp 0
 unfolding zero_timestamp signed
@@ -162,20 +156,6 @@ signed_once a b h k e = go (dec_lt a (2 ^ 63)) (dec_lt b (2 ^ 63))
     go (no x) (no y) =
         let same : suc (2 ^ 64 - suc a) ≡ suc (2 ^ 64 - suc b) = ap nat_abs (sym (sub_lt a (2 ^ 64) h) ∙ sym (signed_high 64 a (not_below a (2 ^ 63) x)) ∙ e ∙ signed_high 64 b (not_below b (2 ^ 63) y) ∙ sub_lt b (2 ^ 64) k) in
         omega (arith, same)
-
--- a body is its type, its timestamp and its requester
-abbrev naming : Option Identity → Body → (Identity → Body) → Body
-naming none other f = other
-naming (some i) other f = f i
-
-abbrev body_from : MessageType → WireTimestamp → Option Identity → Body
-body_from M.Sync w r = Body.Sync w
-body_from M.DelayReq w r = Body.DelayReq w
-body_from M.PDelayReq w r = Body.PDelayReq w
-body_from M.PDelayResp w r = naming r (Body.Sync w) (Body.PDelayResp w)
-body_from M.FollowUp w r = Body.FollowUp w
-body_from M.DelayResp w r = naming r (Body.Sync w) (Body.DelayResp w)
-body_from M.PDelayRespFollowUp w r = naming r (Body.Sync w) (Body.PDelayRespFollowUp w)
 
 body_back : (b : Body) → body_from (type_of b) (timestamp_of b) (requester_in (rest_in b)) ≡ b
 body_back (Body.Sync w) = refl

@@ -10,19 +10,10 @@ use Rattle.rules.specs.Measuring.{settle}
 use Rattle.rules.specs.Rules.{sender_of, becomes_faulty, on_event, on_general, stamped, filtered, state_set, sync_sent, delay_sent, peer_sent}
 use Rattle.rules.specs.Table.{ours}
 use Rattle.rules.specs.Step.{viewed, rule_of}
-use Rattle.rules.proofs.AllLaws.{Comes, Silent, all_cond}
+use Rattle.rules.specs.AllLaws.{Comes, Silent}
+use Rattle.rules.proofs.AllLaws.{all_cond}
 use Rattle.rules.proofs.RuleLaws.{all_sync, all_follow_up, all_delay_resp, all_p_delay_resp, all_p_delay_resp_follow_up, all_delay_req, all_p_delay_req, all_sync_stamped, all_delay_stamped, all_peer_stamped, all_response_stamped, all_sync_timer_ends, all_delay_timer_ends}
-
--- ---- what refuses an event behind row 3
-
-pub record Rows (R : Outcome → Type 0) : Type 0 where
-  pub unfit : R Outcome.Unfit
-  pub limits : R Outcome.Limits
-  pub version : R Outcome.Version
-  pub malformed : R Outcome.Malformed
-  pub foreign : R Outcome.Foreign
-  pub host : R Outcome.Host
-  pub range : R Outcome.Range
+use Rattle.rules.specs.EveryLaws.{Rows, Heard, Every}
 
 -- where nothing is said of refusals
 pub silent : Rows Silent
@@ -39,20 +30,6 @@ all_viewed P R rows c (Reading.Message h b t) rule f =
 all_viewed P R rows c (Reading.Host h) rule f = either_row P R (ours c h) Outcome.Host Outcome.Foreign rows.host rows.foreign
 all_viewed P R rows c Reading.Version rule f = rows.version
 all_viewed P R rows c Reading.Malformed rule f = rows.malformed
-
--- ---- messages and stamps
-
-pub record Heard (P : Done → Type 0) (R : Outcome → Type 0) (p : Port) : Type 0 where
-  pub rows : Rows R
-  pub idle : P (changed p false)
-  pub faulty : P (becomes_faulty p)
-  pub new_sync : (s : SlaveState) (x : Exchange) → p.state ≡ PortState.Slave s → Comes P R (settle (with_slave p (with_sync s x)))
-  pub new_delay : (s : SlaveState) (x : Exchange) → p.state ≡ PortState.Slave s → Comes P R (settle (with_slave p (with_delay s x)))
-  pub new_peer : (x : PeerState) → Comes P R (settle (with_peer p x))
-  pub delay_resp : (h : Header) (at : Time) (m : Message) → delay_resp_of (sender_of p.config) h p.config.delay_interval at ≡ MessageAnswer.Value m → P (sending p [] m (Action.SendGeneral false))
-  pub pdelay_resp : (h : Header) (at : Time) (m : Message) → p_delay_resp_of (sender_of p.config) h at ≡ MessageAnswer.Value m → P (sending p [] m (Action.SendEvent (Context.PDelayResp h.id h.source) true))
-  pub follow_up : (id : ℕ) (t : Time) (m : Message) → follow_up_of (sender_of p.config) id p.config.sync_interval t ≡ MessageAnswer.Value m → P (sending p [] m (Action.SendGeneral false))
-  pub pdelay_resp_follow_up : (id : ℕ) (requester : Identity) (t : Time) (m : Message) → p_delay_resp_follow_up_of (sender_of p.config) id requester t ≡ MessageAnswer.Value m → P (sending p [] m (Action.SendGeneral true))
 
 module _ (P : Done → Type 0) (R : Outcome → Type 0) (p : Port) (k : Heard P R p) where
   pub heard_general : (h : Header) (b : Body) (t : Time) → Comes P R (on_general p h b t)
@@ -98,16 +75,6 @@ module _ (P : Done → Type 0) (R : Outcome → Type 0) (p : Port) (k : Heard P 
   pub heard_stamp_rule : (t : Time) (c : Context) → Comes P R (rule_of p (stamp t c))
   unfolding rule_of
   heard_stamp_rule t c = heard_stamp t c
-
--- ---- all events
-
-pub record Every (P : Done → Type 0) (R : Outcome → Type 0) (p : Port) : Type 0 where
-  pub heard : Heard P R p
-  pub at_sync_sent : (ns : ℕ) → P (sync_sent p ns)
-  pub at_delay_sent : (s : SlaveState) (ns : ℕ) → P (delay_sent p s ns)
-  pub at_peer_sent : (ns : ℕ) → P (peer_sent p ns)
-  pub filter : (u : FilterUpdate) → Comes P R (filtered p u)
-  pub set : (new : NewState) → Comes P R (state_set p new)
 
 pub every_rule : (P : Done → Type 0) (R : Outcome → Type 0) (p : Port) → Every P R p → (e : Event) → Comes P R (rule_of p e)
 unfolding rule_of

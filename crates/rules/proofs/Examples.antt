@@ -11,12 +11,7 @@ use Rattle.rules.specs.Exchanges.{received, sent_at}
 use Rattle.rules.specs.Step.{step}
 use Rattle.rules.specs.Actions.{timers_first}
 use Rattle.rules.specs.Running.{run_of, lines, quiet, measures, refuses, left_by, todos, resets_in, ids_sent, us, master, stranger, ns, lasting, set_up, slave, message, wire_ns, two_step_sync_of, one_step_sync_of, follow_up_at, minus_one}
-
--- ---- the marked ones
-
--- A, and B: the FollowUp first
-abbrev pub MeasuresSync : List Event → Type 0
-MeasuresSync es = lines (run_of (slave 0) es) ≡ quiet ∷ measures (Measurement.Sync (ns 1000) (lasting 100) MaybeDuration.None) ∷ []
+use Rattle.rules.specs.Examples.{MeasuresSync, LeavesOpen, delay_resp_from, request_stamped, Asymmetric, ids_at, TakesLast, TimerIs, set_again, late, Refused, announce, too_late, unfit_port, outcome_in}
 
 pub sync_first : MeasuresSync (event (ns 1000) (two_step_sync_of 7) ∷ general (follow_up_at 7 900) ∷ [])
 unfolding run_of
@@ -25,11 +20,6 @@ sync_first = refl
 pub follow_up_first : MeasuresSync (general (follow_up_at 7 900) ∷ event (ns 1000) (two_step_sync_of 7) ∷ [])
 unfolding run_of
 follow_up_first = refl
-
--- two events that measure nothing, and the sync exchange that they leave open
-abbrev pub LeavesOpen : List Event → Exchange → Type 0
-LeavesOpen es x =
-    (lines (run_of (slave 0) es) ≡ quiet ∷ quiet ∷ []) × (left_by (slave 0) (run_of (slave 0) es) ≡ with_slave (slave 0) (with_sync (slave_of master) x))
 
 -- C: a one-step Sync does not complete what a FollowUp opened. D: a FollowUp of another id replaces the exchange
 pub one_step_after : LeavesOpen (general (follow_up_at 7 900) ∷ event (ns 1000) (one_step_sync_of 7 950) ∷ []) (sent_at 7 (ns 900))
@@ -40,31 +30,9 @@ pub other_id : LeavesOpen (event (ns 1000) (two_step_sync_of 7) ∷ general (fol
 unfolding run_of
 other_id = (refl, refl)
 
--- G: asymmetry 10 ns; the delay is half of what the last raw offset, 90 ns, is above the raw 0
-abbrev pub delay_resp_from : Identity → Identity → ℕ → List ℕ
-delay_resp_from source requester n = message source no_flag 0 0 (Body.DelayResp (wire_ns n) requester)
-
-abbrev pub request_stamped : List Event → List Event
-request_stamped es = delay_timer 0 ∷ stamp (ns 2000) (Context.DelayReq 0) ∷ es
-
-abbrev pub Asymmetric : ℕ → Duration → Duration → Duration → Type 0
-Asymmetric asymmetry raw₁ raw₂ delay =
-    lines (run_of (slave asymmetry) (event (ns 1100) (one_step_sync_of 7 1000) ∷ request_stamped (general (delay_resp_from master us 1990) ∷ []))) ≡ measures (Measurement.Sync (ns 1100) raw₁ MaybeDuration.None) ∷ quiet ∷ quiet ∷ measures (Measurement.Delay (ns 2000) raw₂ (MaybeDuration.Some delay)) ∷ []
-
 pub asymmetric : Asymmetric 10 (lasting 90) (lasting 0) (lasting 45)
 unfolding run_of
 asymmetric = refl
-
--- I: the last id is sent, and 0 follows it; each of the three by itself
-abbrev pub ids_at : ℕ → ℕ → ℕ → Ids
-ids_at s d p = record { sync = s; delay = d; peer = p }
-
-abbrev pub last_ids : Port → Port
-last_ids p = with_ids p (ids_at 65535 65535 65535)
-
-abbrev pub TakesLast : Port → Event → Ids → Type 0
-TakesLast p e after =
-    (ids_sent (run_of (last_ids p) (e ∷ [])) ≡ 65535 ∷ []) × ((left_by (last_ids p) (run_of (last_ids p) (e ∷ []))).ids ≡ after)
 
 pub last_delay_id : TakesLast (slave 0) (delay_timer 0) (ids_at 65535 0 65535)
 unfolding run_of
@@ -77,11 +45,6 @@ last_peer_id = (refl, refl)
 pub last_sync_id : TakesLast (with_state (slave 0) PortState.Master) sync_timer (ids_at 0 65535 65535)
 unfolding run_of
 last_sync_id = (refl, refl)
-
--- J: the middle draw, and the timer before the packet
-abbrev pub TimerIs : ℕ → ℕ → Type 0
-TimerIs draw timer =
-    todos (run_of (slave 0) (delay_timer draw ∷ [])) ≡ (Action.ResetDelayRequestTimer timer ∷ Action.SendEvent (Context.DelayReq 0) false ∷ []) ∷ []
 
 pub middle_draw : TimerIs (2 ^ 51 - 1) 1000000000
 unfolding run_of
@@ -109,23 +72,9 @@ pub not_ours : lines (run_of (slave 0) (request_stamped (general (delay_resp_fro
 unfolding run_of
 not_ours = refl
 
--- Slave set again, with the same master, is emptied, with a reset: neither the open exchange nor the raw offset is left
-abbrev set_again : List Event
-set_again = event (ns 1000) (one_step_sync_of 7 900) ∷ event (ns 2000) (two_step_sync_of 8) ∷ set_state (NewState.Slave master) ∷ []
-
 pub emptied : (left_by (slave 0) (run_of (slave 0) set_again) ≡ slave 0) × (resets_in (run_of (slave 0) set_again) ≡ false ∷ false ∷ true ∷ [])
 unfolding run_of
 emptied = (refl, refl)
-
--- ---- refusals
-
--- 7 comes before the duplicate test, and leaves the exchange as it was: here the second Sync and the second FollowUp of an id, and a FollowUp that its exchange waits for
-abbrev late : Body → List ℕ
-late b = message master no_flag minus_one 7 b
-
-abbrev Refused : Event → Event → Exchange → Type 0
-Refused first then x =
-    (lines (run_of (slave 0) (first ∷ then ∷ [])) ≡ quiet ∷ refuses Outcome.Range ∷ []) × (left_by (slave 0) (run_of (slave 0) (first ∷ then ∷ [])) ≡ with_slave (slave 0) (with_sync (slave_of master) x))
 
 pub duplicate_follow_up : Refused (general (follow_up_at 7 900)) (general (late (Body.FollowUp (wire_ns 0)))) (sent_at 7 (ns 900))
 unfolding run_of
@@ -139,24 +88,9 @@ pub open_stays : Refused (event (ns 1000) (two_step_sync_of 7)) (general (late (
 unfolding run_of
 open_stays = (refl, refl)
 
--- an Announce, type 11, is the host's, 8, where it is ours; of another domain, or another sdo id, it is foreign, 6
-abbrev announce : ℕ → ℕ → List ℕ
-announce sdo domain =
-    bytes_of (header_entries (record { major_sdo = 0xA; kind = 11; minor = 0x1; version = 2; length = 34; domain = domain; minor_sdo = sdo; flags = 0; correction = 0; source = master; id = 0; interval = 0 }) 5)
-
 pub hosts_or_foreign : lines (run_of (slave 0) (general (announce 0x22 0x21) ∷ event (ns 1000) (announce 0x22 0x20) ∷ general (announce 0x23 0x21) ∷ [])) ≡ refuses Outcome.Host ∷ refuses Outcome.Foreign ∷ refuses Outcome.Foreign ∷ []
 unfolding run_of
 hosts_or_foreign = refl
-
--- rows 1 to 4 in their order: a buffer of 63 bytes is too short even for an event that sends nothing, and 64 are enough; an unfit record is found before a time out of limits, that before a message without a version; the largest time and draw are taken
-abbrev too_late : Time
-too_late = time_words (pos (2 ^ 127))
-
-abbrev unfit_port : Port
-unfit_port = with_slave (slave 0) (with_sync (slave_of master) (received 7 too_late))
-
-abbrev outcome_in : ℕ → Port → Event → Outcome
-outcome_in room p e = (step p room e).outcome
 
 pub rows_in_order : (outcome_in 63 unfit_port (event too_late []) ≡ Outcome.Buffer) × (outcome_in 64 unfit_port (event too_late []) ≡ Outcome.Unfit) × (outcome_in 64 (slave 0) (event too_late []) ≡ Outcome.Limits) × (outcome_in 64 (slave 0) (event (ns 0) []) ≡ Outcome.Version) × (outcome_in 63 (slave 0) (set_state NewState.Passive) ≡ Outcome.Buffer)
 unfolding run_of

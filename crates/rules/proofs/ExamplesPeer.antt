@@ -8,29 +8,9 @@ use Rattle.rules.specs.Names.{Time, Identity, Body, Mechanism, PortState, Port, 
 use Rattle.rules.specs.Events.{Event, event, general, stamp, sync_timer, delay_timer}
 use Rattle.rules.specs.Exchanges.{sent_at}
 use Rattle.rules.specs.Running.{run_of, lines, quiet, measures, left_by, resets_in, us, master, stranger, ns, in_units, lasting, set_up, slave, message, wire_ns, two_step_sync_of, one_step_sync_of, follow_up_at}
-use Rattle.rules.proofs.Examples.{MeasuresSync, sync_first, follow_up_first, LeavesOpen, one_step_after, other_id, Asymmetric, asymmetric, ids_at, TakesLast, last_delay_id, last_peer_id, last_sync_id, TimerIs, middle_draw}
-
--- ---- a request of id 0, stamped at 1,000 ns, and what may answer it
-
-abbrev pub asker : Port
-asker = set_up Mechanism.Peer 0
-
-abbrev pub asked : List Event → List Event
-asked es = delay_timer 0 ∷ stamp (ns 1000) (Context.PDelayReq 0) ∷ es
-
--- the request came at 5,000 ns; the correction is in 2 ^ -16 ns
-abbrev pub answer : Identity → ℕ → ℕ → List ℕ
-answer source flags correction = message source flags correction 0 (Body.PDelayResp (wire_ns 5000) us)
-
-abbrev pub answer_follow_up : Identity → ℕ → List ℕ
-answer_follow_up source n = message source no_flag 0 0 (Body.PDelayRespFollowUp (wire_ns n) us)
-
--- 30.5 ns
-abbrev pub half_ns : ℕ
-half_ns = 2 ^ 31
-
-abbrev pub MeasuresPeer : List Event → Time → Type 0
-MeasuresPeer es at = lines (run_of asker (asked es)) ≡ quiet ∷ quiet ∷ quiet ∷ measures (Measurement.Peer at (in_units (pos (61 * half_ns)))) ∷ []
+use Rattle.rules.specs.Examples.{MeasuresSync, LeavesOpen, Asymmetric, ids_at, TakesLast, TimerIs}
+use Rattle.rules.proofs.Examples.{sync_first, follow_up_first, one_step_after, other_id, asymmetric, last_delay_id, last_peer_id, last_sync_id, middle_draw}
+use Rattle.rules.specs.ExamplesPeer.{asker, asked, answer, answer_follow_up, half_ns, MeasuresPeer, MeasuresOneStep, early, later, two_answers, recovering}
 
 -- E, and the same with the follow-up first
 pub peer_two_step : MeasuresPeer (event (ns 1101) (answer master two_step_flag 0) ∷ general (answer_follow_up master 5040) ∷ []) (ns 1101)
@@ -41,21 +21,9 @@ pub peer_follow_up_first : MeasuresPeer (general (answer_follow_up master 5040) 
 unfolding run_of
 peer_follow_up_first = refl
 
--- F: the correction of 40 ns is taken off the receive time, which is what the measurement is dated by
-abbrev pub MeasuresOneStep : Time → List ℕ → Time → ℤ → Type 0
-MeasuresOneStep at message dated delay =
-    lines (run_of asker (asked (event at message ∷ []))) ≡ quiet ∷ quiet ∷ measures (Measurement.Peer dated (in_units delay)) ∷ []
-
 pub peer_one_step : MeasuresOneStep (ns 1101) (answer master no_flag (40 * 2 ^ 16)) (ns 1061) (pos (61 * half_ns))
 unfolding run_of
 peer_one_step = refl
-
--- H: a one-step response that came 3 units before the request left, and 3 units after
-abbrev pub early : Time
-early = time_words (pos (1000 * 2 ^ 32 - 3))
-
-abbrev pub later : Time
-later = time_words (pos (1000 * 2 ^ 32 + 3))
 
 pub half_of_minus_3 : MeasuresOneStep early (answer master no_flag 0) early (negsuc 0)
 unfolding run_of
@@ -72,18 +40,9 @@ pub overwrites : lines (run_of asker (asked (general (answer_follow_up master 60
 unfolding run_of
 overwrites = refl
 
--- a second responder is looked for before a duplicate: the state becomes Faulty, 3, with a reset; the exchange stays, so the first responder's follow-up completes it, and the port listens again, with a reset
-abbrev two_answers : List Event
-two_answers =
-    asked (event (ns 1101) (answer master two_step_flag 0) ∷ event (ns 1101) (answer stranger two_step_flag 0) ∷ [])
-
 pub second_responder_lem : (state_number (left_by asker (run_of asker two_answers)).state ≡ 3) × (resets_in (run_of asker two_answers) ≡ false ∷ false ∷ false ∷ true ∷ [])
 unfolding run_of
 second_responder_lem = (refl, refl)
-
-abbrev recovering : List Event
-recovering =
-    asked (event (ns 1101) (answer master two_step_flag 0) ∷ event (ns 1101) (answer stranger two_step_flag 0) ∷ general (answer_follow_up master 5040) ∷ [])
 
 pub recovered_from : (lines (run_of asker recovering) ≡ quiet ∷ quiet ∷ quiet ∷ quiet ∷ measures (Measurement.Peer (ns 1101) (in_units (pos (61 * half_ns)))) ∷ []) × (state_number (left_by asker (run_of asker recovering)).state ≡ 0) × (resets_in (run_of asker recovering) ≡ false ∷ false ∷ false ∷ true ∷ true ∷ [])
 unfolding run_of

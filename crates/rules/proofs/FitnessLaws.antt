@@ -15,7 +15,8 @@ use Rattle.reading.specs.Reading.{read_of}
 use Rattle.reading.specs.ReadingLaws.{IsMessage, message_is}
 use Rattle.record.specs.Record.{with_sync, with_delay, with_slave, with_peer}
 use Rattle.fitness.specs.Fit.{time_out, config_out, unfit}
-use Rattle.fitness.proofs.FitLaws.{FitSync, FitDelay, FitState, FitPeer, IsFit, fit_is, fit_when}
+use Rattle.fitness.specs.FitLaws.{FitSync, FitDelay, FitState, FitPeer, IsFit}
+use Rattle.fitness.proofs.FitLaws.{fit_is, fit_when}
 use Rattle.rules.specs.Names.{Time, Header, Body, MaybeDuration, Exchange, SlaveState, PortState, PeerState, Port, Context, NewState, Outcome, Reading}
 use Rattle.rules.specs.Worked.{less_correction, plus_correction}
 use Rattle.rules.specs.Events.{Event, event, general, stamp, sync_timer, delay_timer, filter_answer, set_state, Done}
@@ -25,12 +26,15 @@ use Rattle.rules.specs.Rules.{on_event, on_general, stamped, filtered, mean_give
 use Rattle.rules.specs.Table.{row3}
 use Rattle.rules.specs.Step.{rule_of, step}
 use Rattle.rules.specs.Given.{BytesIn}
-use Rattle.rules.proofs.AllLaws.{All, Silent, all_is}
+use Rattle.rules.specs.AllLaws.{All, Silent}
+use Rattle.rules.proofs.AllLaws.{all_is}
 use Rattle.rules.proofs.RuleLaws.{all_sync, all_follow_up, all_delay_resp, all_p_delay_resp, all_p_delay_resp_follow_up, all_delay_req, all_p_delay_req, all_sync_stamped, all_delay_stamped, all_peer_stamped, all_response_stamped, all_sync_timer_ends, all_delay_timer_ends}
 use Rattle.rules.proofs.EveryLaws.{silent, all_viewed}
 use Rattle.rules.proofs.StoringLaws.{sync_open, delay_open, slave_fit, all_settle_sync, all_settle_delay, all_settle_peer}
-use Rattle.rules.proofs.StoredLaws.{InTime, Stores, SyncOrFull, DelayOrFull, PeerOrDone, stores_is, less_in_time, plus_in_time, synced_stores, followed_up_stores, delay_answered_stores, delay_stamped_stores, responded_stores, responded_later_stores, peer_stamped_stores}
+use Rattle.rules.specs.StoredLaws.{InTime, Stores, SyncOrFull, DelayOrFull, PeerOrDone}
+use Rattle.rules.proofs.StoredLaws.{stores_is, less_in_time, plus_in_time, synced_stores, followed_up_stores, delay_answered_stores, delay_stamped_stores, responded_stores, responded_later_stores, peer_stamped_stores}
 use Rattle.rules.proofs.RefusalLaws.{taken_has, step_has}
+use Rattle.rules.specs.FitnessLaws.{Fit}
 
 -- ---- the times that come in
 
@@ -50,11 +54,6 @@ message_in_time l h b t bytes e =
     let at : timestamp_of b ≡ timestamp_at body l = ap timestamp_of k.body_is ∙ timestamp_body (type_of b) l in
     let i : IsTime (wire (timestamp_of b)) t = read_is (timestamp_of b) t (subst (λ (w : WireTimestamp). w.nanos < 2 ^ 32) (sym at) (nanos_width l bytes)) k.time in
     ap in_time i.value ∙ i.within
-
--- ---- fit records
-
-abbrev Fit : Done → Type 0
-Fit d = IsFit d.port
 
 fit_recovered : (state : PortState) → FitState state → FitState (recovered state)
 fit_recovered PortState.Listening f = f

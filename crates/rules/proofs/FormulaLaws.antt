@@ -10,9 +10,10 @@ use Rattle.rules.specs.WorkedOut.{Sums, no_sums, unfinished, numbers_of, of_read
 use Rattle.rules.specs.Step.{viewed, rule_of, step}
 use Rattle.rules.specs.Formulas.{Says}
 use Rattle.rules.proofs.AgreeLaws.{by_test, agrees_all}
-use Rattle.rules.proofs.MeasureLaws.{SumsJudged}
-use Rattle.rules.proofs.SumsLaws.{Open, fit_open, event_judged, later_judged, stamp_judged}
-use Rattle.rules.proofs.AllLaws.{All, Silent}
+use Rattle.rules.specs.MeasureLaws.{SumsJudged}
+use Rattle.rules.specs.SumsLaws.{Open}
+use Rattle.rules.proofs.SumsLaws.{fit_open, event_judged, later_judged, stamp_judged}
+use Rattle.rules.specs.AllLaws.{All, Silent}
 use Rattle.rules.proofs.RuleLaws.{all_sync_timer_ends, all_delay_timer_ends}
 use Rattle.rules.proofs.RefusalLaws.{taken_has}
 

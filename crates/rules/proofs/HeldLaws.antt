@@ -14,14 +14,17 @@ use Rattle.rules.specs.Changes.{second_heard, recovers, new_number, state_after,
 use Rattle.rules.specs.Held.{later_held, event_held, stamp_held, request_held, state_given, exchanges_after, state_held, peer_after, Concern, nobody, of_slave, of_peer, message_concern, stamp_concern, request_concern, concerned}
 use Rattle.rules.specs.Table.{ours}
 use Rattle.rules.specs.Step.{viewed, rule_of, step}
-use Rattle.rules.proofs.SumsLaws.{Open, fit_open}
+use Rattle.rules.specs.SumsLaws.{Open}
+use Rattle.rules.proofs.SumsLaws.{fit_open}
 use Rattle.rules.proofs.AgreeLaws.{by_test}
-use Rattle.rules.proofs.AllLaws.{All, Silent, all_map}
+use Rattle.rules.specs.AllLaws.{All, Silent}
+use Rattle.rules.proofs.AllLaws.{all_map}
 use Rattle.rules.proofs.RuleLaws.{all_delay_req, all_p_delay_req, all_sync_stamped, all_response_stamped, all_sync_timer_ends}
 use Rattle.rules.proofs.RefusalLaws.{taken_has}
 use Rattle.rules.proofs.ChangeLaws.{config_after, ids_after_lem, mean_after_lem}
 use Rattle.rules.proofs.StateLaws.{state_after_lem}
-use Rattle.rules.proofs.HeldSyncLaws.{OnlySlave, EndsAs, own_state, sync_by, follow_up_by}
+use Rattle.rules.specs.HeldSyncLaws.{OnlySlave, EndsAs}
+use Rattle.rules.proofs.HeldSyncLaws.{own_state, sync_by, follow_up_by}
 use Rattle.rules.proofs.HeldRequestLaws.{delay_stamp_by, delay_resp_by, request_by, peer_stamp_holds, pdelay_resp_holds, pdelay_resp_follow_up_holds}
 
 -- ---- every rule

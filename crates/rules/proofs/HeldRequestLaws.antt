@@ -22,10 +22,12 @@ use Rattle.rules.specs.Held.{send_filled, receive_filled, taken_out, delay_resp_
 use Rattle.rules.proofs.AgreeLaws.{by_test, then_then}
 use Rattle.rules.proofs.SettleLaws.{settle_delay, settle_peer}
 use Rattle.rules.proofs.PeerLaws.{second_same}
-use Rattle.rules.proofs.SumsLaws.{Open}
-use Rattle.rules.proofs.AllLaws.{All, Silent, all_timed}
+use Rattle.rules.specs.SumsLaws.{Open}
+use Rattle.rules.specs.AllLaws.{All, Silent}
+use Rattle.rules.proofs.AllLaws.{all_timed}
 use Rattle.rules.proofs.RuleLaws.{all_measure_delay, all_measure_peer}
-use Rattle.rules.proofs.HeldSyncLaws.{EndsAs, own_state, OnlySlave, all_time}
+use Rattle.rules.specs.HeldSyncLaws.{EndsAs, OnlySlave}
+use Rattle.rules.proofs.HeldSyncLaws.{own_state, all_time}
 
 -- ---- the delay exchange
 

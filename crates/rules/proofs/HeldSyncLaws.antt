@@ -22,21 +22,10 @@ use Rattle.rules.specs.WorkedOut.{Completed, unfinished, sync, asymmetry, raw_sy
 use Rattle.rules.specs.Held.{send_filled, receive_filled, begun, of_id, taken_out, sync_held, follow_up_held, new_sync}
 use Rattle.rules.proofs.AgreeLaws.{by_test}
 use Rattle.rules.proofs.SettleLaws.{settle_sync}
-use Rattle.rules.proofs.SumsLaws.{Open}
-use Rattle.rules.proofs.AllLaws.{All, Silent, all_then, all_silent}
-
--- ---- what is said of a rule: the peer exchange is this, and a Slave is that one
-
-abbrev pub OnlySlave : PortState → PortState → Type 0
-OnlySlave z PortState.Listening = Unit {0}
-OnlySlave z PortState.Master = Unit {0}
-OnlySlave z PortState.Passive = Unit {0}
-OnlySlave z PortState.Faulty = Unit {0}
-OnlySlave z (PortState.Slave s) = z ≡ PortState.Slave s
-
-pub record EndsAs (r : Port) (d : Done) : Type 0 where
-  pub state : OnlySlave r.state d.port.state
-  pub peer : r.peer ≡ d.port.peer
+use Rattle.rules.specs.SumsLaws.{Open}
+use Rattle.rules.specs.AllLaws.{All, Silent}
+use Rattle.rules.proofs.AllLaws.{all_then, all_silent}
+use Rattle.rules.specs.HeldSyncLaws.{OnlySlave, EndsAs, completed_by}
 
 -- in its own state a Slave is the one it was
 pub own_state : (state : PortState) → OnlySlave state state
@@ -75,14 +64,6 @@ all_raw P p s send receive f =
     all_duration P (duration (duration_words a) -ℤ asymmetry p) _ (λ g.
     all_then P Silent (less_mean raw p.mean) _ (all_silent (less_mean raw p.mean)) (λ offset k.
     subst (λ (y : ℤ). P (measured (sync_out p s (duration_words (y -ℤ asymmetry p))) (Measurement.Sync receive raw offset) false)) (sym e) (f (Measurement.Sync receive raw offset)))))
-
--- ---- the sync exchange: x before the event, y stored by it
-
-abbrev completed_by : Exchange → Completed
-completed_by Exchange.Empty = unfinished
-completed_by (Exchange.Measuring id MaybeTime.None receive) = unfinished
-completed_by (Exchange.Measuring id (MaybeTime.Some a) MaybeTime.None) = unfinished
-completed_by (Exchange.Measuring id (MaybeTime.Some a) (MaybeTime.Some b)) = sync (time a) (time b)
 
 with_receive : (k : ℕ) (t : Time) (send : MaybeTime) → completed_by (Exchange.Measuring k send (MaybeTime.Some t)) ≡ held send (λ z. sync z (time t))
 with_receive k t MaybeTime.None = refl

@@ -17,15 +17,18 @@ use Rattle.rules.specs.Rules.{keeping, delay_id_taken, delay_resp, stamped, on_e
 use Rattle.rules.specs.Step.{rule_of, step}
 use Rattle.rules.specs.WorkedOut.{Completed, numbers_of}
 use Rattle.rules.proofs.AgreeLaws.{agrees_all, then_then}
-use Rattle.rules.proofs.AllLaws.{All, Silent}
+use Rattle.rules.specs.AllLaws.{All, Silent}
 use Rattle.rules.proofs.RuleLaws.{all_delay_timer_ends}
 use Rattle.rules.proofs.MeasureLaws.{delay_agrees}
 use Rattle.rules.proofs.RefusalLaws.{taken_has}
 use Rattle.rules.specs.LinearLaws.{num, ◌⊕◌, ◌⊖◌, over_zero, under_zero, equal_sums}
 use Rattle.rules.specs.Ieee.{WireFields, Syncs, origin_timestamp, sync_message, follow_up_correction, offset_from_master, mean_path_delay}
 use Rattle.rules.proofs.TakenLaws.{brought_rule, brought_time}
-use Rattle.rules.proofs.RunLaws.{Taken, BothOrders, Turns, turns, delay_part, less_worth, after_two}
-use Rattle.rules.proofs.IeeeLaws.{IsWorth, MeasuresOffset, given_worth, wire_fields}
+use Rattle.rules.specs.RunLaws.{Taken, BothOrders, Turns}
+use Rattle.rules.proofs.RunLaws.{turns, delay_part, less_worth, after_two}
+use Rattle.rules.specs.IeeeLaws.{IsWorth, MeasuresOffset, wire_fields}
+use Rattle.rules.proofs.IeeeLaws.{given_worth}
+use Rattle.rules.specs.IeeeDelayLaws.{MeasuresPathDelay}
 
 -- ---- the events
 
@@ -49,16 +52,6 @@ module _ (p : Port) (s : SlaveState) (id : ℕ) where
       let stored : Time → Worked (Change Exchange) = λ u. worked (becomes (new u)) in
       let g : delay_resp (port_with_delay x) h p.config.identity t ≡ (less_correction t h then λ u. settle (port_with_delay (new u))) = (λ i. cond (identity_self p.config.identity i) (cond ((same_identity_lem s.master h.source).1 from i) (cond (eq-eqb id h.id (sym same_id) i) (less_correction t h then stored) (worked stays) then λ y. keeping (port_with_delay x) port_with_delay y) (nothing (port_with_delay x))) (nothing (port_with_delay x))) ∙ then_then (less_correction t h) stored (keeping (port_with_delay x) port_with_delay) in
       turns (delay_part p s) (less_correction t h) (less_worth t h) (λ P. brought_rule h (Body.DelayResp w p.config.identity) t P (port_with_delay x) _ (λ at. g) g e brings)
-
--- ---- what is measured
-
-pub record MeasuresPathDelay (delay_asymmetry : ℤ) (m : Syncs) (delay_resp : WireFields) (t2 t3 : ℤ) (r : Result) : Type 0 where
-  pub event_time : Time
-  pub raw : Duration
-  pub delay : MaybeDuration
-  pub measurement : r.measurement ≡ MaybeMeasurement.Some (Measurement.Delay event_time raw delay)
-  pub event_time_is : time event_time ≡ t3
-  pub delay_is : IsWorth delay (mean_path_delay delay_asymmetry m delay_resp t2 t3)
 
 -- the standard's sum in the port's order; the two places of <delayAsymmetry> cancel
 path_delay_of : (a : ℤ) (m : Syncs) (d : WireFields) (t2 t3 : ℤ) → half (offset_from_master a m t2 (pos 0) -ℤ ((t3 -ℤ (wire d.timestamp -ℤ correction d.correction_field)) -ℤ a)) ≡ mean_path_delay a m d t2 t3

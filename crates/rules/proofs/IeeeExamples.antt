@@ -13,19 +13,16 @@ use Rattle.rules.specs.Names.{Identity, Header, Body, Mechanism, Port, Context}
 use Rattle.rules.specs.Events.{event, general, stamp, delay_timer, Result}
 use Rattle.rules.specs.Step.{step}
 use Rattle.rules.specs.Ieee.{WireFields, Syncs, Pdelays, offset_from_master, mean_path_delay, mean_link_delay}
-use Rattle.rules.proofs.IeeeLaws.{MeasuresOffset, wire_fields, two_step_offset}
-use Rattle.rules.proofs.IeeePeerLaws.{MeasuresLinkDelay, requesting, two_step_link_delay}
-use Rattle.rules.proofs.IeeeDelayLaws.{MeasuresPathDelay, path_delay_after_sync}
-use Rattle.rules.proofs.ResponderLaws.{MeasuresWay, way_of, link_measured}
+use Rattle.rules.specs.IeeeLaws.{MeasuresOffset, wire_fields}
+use Rattle.rules.proofs.IeeeLaws.{two_step_offset}
+use Rattle.rules.specs.IeeePeerLaws.{MeasuresLinkDelay, requesting}
+use Rattle.rules.proofs.IeeePeerLaws.{two_step_link_delay}
+use Rattle.rules.specs.IeeeDelayLaws.{MeasuresPathDelay}
+use Rattle.rules.proofs.IeeeDelayLaws.{path_delay_after_sync}
+use Rattle.rules.specs.ResponderLaws.{MeasuresWay, way_of}
+use Rattle.rules.proofs.ResponderLaws.{link_measured}
 use Rattle.rules.specs.Running.{run_of, us, master, ns, lasting, set_up, slave, speaker, message, wire_ns, two_step_sync_of, follow_up_at}
-
--- ---- the formulas: timestamps and corrections in nanoseconds
-
-abbrev fields : ℕ → ℕ → WireFields
-fields n c = record { timestamp = wire_ns n; correction_field = c * 2 ^ 16 }
-
-abbrev nano : ℕ → ℤ
-nano n = pos (n * 2 ^ 32)
+use Rattle.rules.specs.IeeeExamples.{fields, nano, said, synced, delay_resp, answer, answer_follow_up, asker, small, responder, request, response, response_follow_up, asked_at}
 
 -- A, and with an asymmetry of 10, a mean delay of 30, corrections of 3 and 5
 offset_a : offset_from_master (nano 0) (Syncs.two_step (fields 0 0) (fields 900 0)) (nano 1000) (nano 0) ≡ nano 100
@@ -50,11 +47,6 @@ link_delay_f : mean_link_delay (nano 7) (Pdelays.one_step (fields 5000 40)) (nan
 unfolding mean_link_delay wire correction signed half
 link_delay_f = refl
 
--- ---- the theorems, met by runs: what each event brings, and that it is Taken, computes
-
-abbrev said : Identity → MessageType → ℕ → ℕ → ℕ → Header
-said source type flags correction id = header_for (speaker source) type flags correction id no_interval
-
 sync_header : Header
 sync_header = said master M.Sync two_step_flag 0 7
 
@@ -71,12 +63,6 @@ offset_met =
 delay_header : Header
 delay_header = said master M.DelayResp no_flag 0 0
 
-abbrev synced : Result
-synced = step (step (slave 10) 64 (event (ns 1000) (two_step_sync_of 7))).port 64 (general (follow_up_at 7 900))
-
-abbrev delay_resp : List ℕ
-delay_resp = message master no_flag 0 0 (Body.DelayResp (wire_ns 1990) us)
-
 path_delay_met : MeasuresPathDelay (nano 10) (Syncs.two_step (wire_fields sync_header (wire_ns 0)) (wire_fields follow_up_header_lem (wire_ns 900))) (wire_fields delay_header (wire_ns 1990)) (nano 1000) (nano 2000) (step (step (step synced.port 64 (delay_timer 0)).port 64 (general delay_resp)).port 64 (stamp (ns 2000) (Context.DelayReq 0)))
 unfolding run_of sync_header follow_up_header_lem delay_header
 path_delay_met =
@@ -90,26 +76,11 @@ answer_header_lem = said master M.PDelayResp two_step_flag 0 0
 answer_follow_up_header : Header
 answer_follow_up_header = said master M.PDelayRespFollowUp no_flag 0 0
 
-abbrev answer : List ℕ
-answer = message master two_step_flag 0 0 (Body.PDelayResp (wire_ns 5000) us)
-
-abbrev answer_follow_up : List ℕ
-answer_follow_up = message master no_flag 0 0 (Body.PDelayRespFollowUp (wire_ns 5040) us)
-
-abbrev asker : Port
-asker = set_up Mechanism.Peer 10
-
 link_delay_met : MeasuresLinkDelay (requesting asker) 0 master (Pdelays.two_step (wire_fields answer_header_lem (wire_ns 5000)) (wire_fields answer_follow_up_header (wire_ns 5040))) (nano 1000) (nano 1101) (step (step (step (step asker 64 (delay_timer 0)).port 64 (general answer_follow_up)).port 64 (event (ns 1101) answer)).port 64 (stamp (ns 1000) (Context.PDelayReq 0)))
 unfolding run_of answer_header_lem answer_follow_up_header
 link_delay_met =
     (two_step_link_delay asker refl 0 64 refl (ns 1000) (ns 1101) answer answer_header_lem (wire_ns 5000) (ns 5000) refl refl refl
     (general answer_follow_up) answer_follow_up_header (wire_ns 5040) (ns 5040) refl refl refl).cba 64 refl 64 64 refl refl
-
--- ---- both ends of a link: the request that one port sends at 1,000 ns comes to the other, whose answer is measured
-
-unfoldable pub small : List ℕ → Bool
-small [] = true
-small (x ∷ xs) = ltb x 256 && small xs
 
 pub small_bytes : (l : List ℕ) → small l ≡ true → Bytes l
 unfolding small
@@ -117,25 +88,8 @@ small_bytes [] e i = lit< tt
 small_bytes (x ∷ xs) e zero = ltb-true x 256 (both (ltb x 256) (small xs) e).0
 small_bytes (x ∷ xs) e (suc i) = small_bytes xs (both (ltb x 256) (small xs) e).1 i
 
--- the responder has another identity
-abbrev responder : Port
-responder =
-    port_of record { identity = master; sdo = 0xA22; domain = 0x21; minor = 0x1; mechanism = Mechanism.Peer; delay_interval = 0x00; sync_interval = 0x00; asymmetry = lasting 0 }
-
-abbrev request : Result
-request = step asker 64 (delay_timer 0)
-
 request_header : Header
 request_header = said us M.PDelayReq no_flag 0 0
-
-abbrev response : Result
-response = step responder 64 (event (ns 5000) request.sent)
-
-abbrev response_follow_up : Result
-response_follow_up = step response.port 64 (stamp (ns 5040) (Context.PDelayResp 0 us))
-
-abbrev asked_at : Port
-asked_at = (step request.port 64 (stamp (ns 1000) (Context.PDelayReq 0))).port
 
 link_met : MeasuresWay (way_of (ns 1000) (ns 5000) (ns 5040) (ns 1101) request_header) (step (step asked_at 64 (event (ns 1101) response.sent)).port 64 (general response_follow_up.sent))
 unfolding run_of request_header small

@@ -18,30 +18,14 @@ use Rattle.rules.specs.Step.{step}
 use Rattle.rules.specs.WorkedOut.{Completed, numbers_of}
 use Rattle.rules.specs.Formulas.{GivenBy}
 use Rattle.rules.proofs.AgreeLaws.{agrees_all}
-use Rattle.rules.proofs.AllLaws.{All}
+use Rattle.rules.specs.AllLaws.{All}
 use Rattle.rules.proofs.MeasureLaws.{sync_agrees}
 use Rattle.rules.specs.LinearLaws.{num, ◌⊕◌, ◌⊖◌, over_zero, under_zero, equal_sums}
 use Rattle.rules.specs.Ieee.{WireFields, Syncs, origin_timestamp, sync_message, follow_up_correction, offset_from_master}
 use Rattle.rules.proofs.TakenLaws.{event_rule, brought_rule, wire-time, brought_time}
-use Rattle.rules.proofs.RunLaws.{BothOrders, Turns, turns, sync_part, less_worth, plus_worth, after_two}
-
--- ---- what is measured: the raw offset is <offsetFromMaster> with no mean delay, and the offset that with the one that is stored
-
--- a duration is there, and is worth so much
-abbrev pub IsWorth : MaybeDuration → ℤ → Type 0
-IsWorth MaybeDuration.None z = ⊥
-IsWorth (MaybeDuration.Some d) z = duration d ≡ z
-
-pub record MeasuresOffset (p : Port) (s : SlaveState) (r : Result) (m : Syncs) (t2 : ℤ) : Type 0 where
-  pub event_time : Time
-  pub raw : Duration
-  pub offset : MaybeDuration
-  pub measurement : r.measurement ≡ MaybeMeasurement.Some (Measurement.Sync event_time raw offset)
-  pub event_time_is : time event_time ≡ t2 -ℤ correction (sync_message m).correction_field
-  pub raw_is : duration raw ≡ offset_from_master (duration p.config.asymmetry) m t2 (pos 0)
-  pub offset_is : (mean : Duration) → p.mean ≡ MaybeDuration.Some mean → IsWorth offset (offset_from_master (duration p.config.asymmetry) m t2 (duration mean))
-  pub no_offset : p.mean ≡ MaybeDuration.None → offset ≡ MaybeDuration.None
-  pub port : r.port ≡ with_slave p (with_raw (with_sync s Exchange.Empty) raw)
+use Rattle.rules.specs.RunLaws.{BothOrders, Turns}
+use Rattle.rules.proofs.RunLaws.{turns, sync_part, less_worth, plus_worth, after_two}
+use Rattle.rules.specs.IeeeLaws.{IsWorth, MeasuresOffset, wire_fields}
 
 -- what is given by a formula over another duration, where that is there and where it is not
 pub given_worth : (stored d : MaybeDuration) (f : ℤ → ℤ) (m : Duration) → stored ≡ MaybeDuration.Some m → GivenBy stored f d → IsWorth d (f (duration m))
@@ -89,12 +73,6 @@ module _ (p : Port) (s : SlaveState) (id : ℕ) (send receive : Time) (m : Syncs
         no_offset = λ e. not_given p.mean offset (λ y. z -ℤ y) e given;
         port = refl;
       }))
-
--- ---- the events, from the master
-
--- the fields of a message
-abbrev pub wire_fields : Header → WireTimestamp → WireFields
-wire_fields h w = record { timestamp = w; correction_field = h.correction }
 
 module _ (p : Port) (s : SlaveState) (h : Header) (t : Time) (from : s.master ≡ h.source) (x : Exchange) (new : Time → Exchange) where
   abbrev port_with_sync : Exchange → Port

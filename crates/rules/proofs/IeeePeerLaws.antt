@@ -14,30 +14,17 @@ use Rattle.rules.specs.Measuring.{recovered, peer_out}
 use Rattle.rules.specs.Exchanges.{peer_requested}
 use Rattle.rules.specs.Rules.{peer_id_taken}
 use Rattle.rules.specs.Step.{rule_of, step}
-use Rattle.rules.proofs.AllLaws.{All, Silent}
+use Rattle.rules.specs.AllLaws.{All, Silent}
 use Rattle.rules.proofs.RuleLaws.{all_delay_timer_ends}
 use Rattle.rules.proofs.RefusalLaws.{taken_has}
 use Rattle.rules.specs.LinearLaws.{num, ◌⊕◌, ◌⊖◌, equal_sums}
 use Rattle.rules.specs.Ieee.{WireFields, Pdelays, mean_link_delay}
 use Rattle.rules.proofs.TakenLaws.{wire-time, brought_time}
-use Rattle.rules.proofs.RunLaws.{Taken, BothOrders, AllOrders, peer_part, after_two, after_three}
-use Rattle.rules.proofs.IeeeLaws.{wire_fields}
+use Rattle.rules.specs.RunLaws.{Taken, BothOrders, AllOrders}
+use Rattle.rules.proofs.RunLaws.{peer_part, after_two, after_three}
+use Rattle.rules.specs.IeeeLaws.{wire_fields}
 use Rattle.rules.proofs.PeerRunLaws.{stamp_turns, response_turns, follow_up_turns, complete_has}
-
--- ---- what is measured
-
--- the Pdelay_Resp of both kinds
-abbrev pub response : Pdelays → WireFields
-response (Pdelays.one_step pdelay_resp) = pdelay_resp
-response (Pdelays.two_step pdelay_resp pdelay_resp_follow_up) = pdelay_resp
-
-pub record MeasuresLinkDelay (p : Port) (id : ℕ) (responder : Identity) (m : Pdelays) (t1 t4 : ℤ) (r : Result) : Type 0 where
-  pub event_time : Time
-  pub delay : Duration
-  pub measurement : r.measurement ≡ MaybeMeasurement.Some (Measurement.Peer event_time delay)
-  pub event_time_is : time event_time ≡ t4 -ℤ correction (response m).correction_field
-  pub delay_is : duration delay ≡ mean_link_delay (duration p.config.asymmetry) m t1 t4
-  pub port : r.port ≡ with_state (with_peer p (PeerState.Measured id responder)) (recovered p.state)
+use Rattle.rules.specs.IeeePeerLaws.{response, MeasuresLinkDelay, requesting}
 
 -- the standard's sums in the port's order; the two places of <delayAsymmetry> cancel
 two_step_link : (a : ℤ) (r f : WireFields) (t1 t4 : ℤ) → half (((t4 -ℤ correction r.correction_field) -ℤ t1) -ℤ ((wire f.timestamp +ℤ correction f.correction_field) -ℤ wire r.timestamp)) ≡ mean_link_delay a (Pdelays.two_step r f) t1 t4
@@ -130,11 +117,6 @@ module _ (p : Port) (id : ℕ) (t1 t4 : Time) (message : List ℕ) (hr : Header)
           cba = after_three (peer_part p) TwoGoal (F nobody none none none tt) (λ t. R (by hf) none none (some t) one_source) (λ t u. S (by hr) (some tr) (some t) (some u)) (λ t. refl) (λ t u. refl)
               (λ t u v et eu ev. end hr.source v tr t u refl ev came (left_at t et) eu);
         }
-
--- ---- the request: a delay timer on a port with the peer mechanism takes the next id and opens its exchange
-
-abbrev pub requesting : Port → Port
-requesting p = with_ids p (peer_id_taken p.ids)
 
 module _ (p : Port) (peers : p.config.mechanism ≡ Mechanism.Peer) (draw room : ℕ) (k : Taken (step p room (delay_timer draw))) where
   pub peer_requested_lem : (step p room (delay_timer draw)).port ≡ with_peer (requesting p) (peer_requested p.ids.peer)

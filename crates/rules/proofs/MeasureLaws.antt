@@ -11,15 +11,9 @@ use Rattle.rules.specs.Events.{Done}
 use Rattle.rules.specs.Measuring.{measure_sync, measure_delay, measure_peer, measured, sync_out, delay_out, peer_out}
 use Rattle.rules.specs.WorkedOut.{Completed, Sums, sync, delay, peer, raw_sync, raw_delay, peer_twice, peer_opened, numbers_of, asymmetry, durations, ◌∋◌, if_there}
 use Rattle.rules.specs.Formulas.{Says, GivenBy}
-use Rattle.rules.proofs.AgreeLaws.{Agrees, agrees_duration, agrees_mean, agrees_half, half_means}
-
--- what is done about an exchange is as 01 says it
-abbrev pub Judged : Port → Completed → Worked Done → Type 0
-Judged p c w = Agrees (numbers_of p c) (λ d. Says p c d.measurement d.port) w
-
--- what 01 has worked out, beside what the rule does
-abbrev pub SumsJudged : Port → Sums → Worked Done → Type 0
-SumsJudged p c w = Agrees (c.numbers ++ numbers_of p c.completes) (λ d. Says p c.completes d.measurement d.port) w
+use Rattle.rules.specs.AgreeLaws.{Agrees}
+use Rattle.rules.proofs.AgreeLaws.{agrees_duration, agrees_mean, agrees_half, half_means}
+use Rattle.rules.specs.MeasureLaws.{Judged}
 
 -- any property of what is measured follows from the numbers of its formula, and so what 01 says of it. The record is a Slave's, and the exchange was just stored in it
 module _ (p : Port) (s : SlaveState) (x : Exchange) (send receive : Time) where

@@ -17,7 +17,8 @@ use Rattle.rules.specs.Exchanges.{Change, stays, becomes, peer_stamped, second_r
 use Rattle.rules.specs.Rules.{keeping, becomes_faulty, peer_answer, p_delay_resp, p_delay_resp_follow_up, stamped}
 use Rattle.rules.specs.WorkedOut.{Completed, peer, peer_opened, held, Sums, corrected, no_sums, numbers_of, differs, answered_by, second, p_delay_resp_sums, p_delay_resp_follow_up_sums, stamp_sums}
 use Rattle.rules.proofs.AgreeLaws.{by_test, agrees_time, then_then}
-use Rattle.rules.proofs.MeasureLaws.{Judged, SumsJudged, peer_judged}
+use Rattle.rules.specs.MeasureLaws.{Judged, SumsJudged}
+use Rattle.rules.proofs.MeasureLaws.{peer_judged}
 use Rattle.rules.proofs.SettleLaws.{settle_peer}
 
 -- another responder to the request that is open or measured, said in two ways

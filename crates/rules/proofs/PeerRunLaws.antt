@@ -18,15 +18,12 @@ use Rattle.rules.specs.Rules.{keeping, becomes_faulty, peer_answer, p_delay_resp
 use Rattle.rules.specs.Step.{rule_of}
 use Rattle.rules.specs.WorkedOut.{Completed, peer_twice, numbers_of}
 use Rattle.rules.proofs.AgreeLaws.{agrees_all, then_then}
-use Rattle.rules.proofs.AllLaws.{All}
+use Rattle.rules.specs.AllLaws.{All}
 use Rattle.rules.proofs.MeasureLaws.{peer_agrees}
 use Rattle.rules.proofs.TakenLaws.{event_rule, brought_rule}
-use Rattle.rules.proofs.RunLaws.{Turns, turns, peer_part, less_worth, plus_worth}
-
--- no responder yet, or this one
-abbrev pub OnlyBy : Identity → MaybeIdentity → Type 0
-OnlyBy source MaybeIdentity.None = Unit {0}
-OnlyBy source (MaybeIdentity.Some i) = i ≡ source
+use Rattle.rules.specs.RunLaws.{Turns}
+use Rattle.rules.proofs.RunLaws.{turns, peer_part, less_worth, plus_worth}
+use Rattle.rules.specs.PeerRunLaws.{OnlyBy}
 
 pub no_second : (source : Identity) (o : MaybeIdentity) → OnlyBy source o → another o source ≡ false
 no_second source MaybeIdentity.None only = refl

@@ -12,14 +12,12 @@ use Rattle.rules.specs.Measuring.{settle}
 use Rattle.rules.specs.Rules.{filtered, state_set}
 use Rattle.rules.specs.Table.{row1, row3}
 use Rattle.rules.specs.Step.{tabled, unless, rule_of, step}
-use Rattle.rules.proofs.AllLaws.{Comes, Anything, Silent, All, all_is, all_cond, all_fill}
+use Rattle.rules.specs.AllLaws.{Comes, Anything, Silent, All}
+use Rattle.rules.proofs.AllLaws.{all_is, all_cond, all_fill}
 use Rattle.rules.proofs.RuleLaws.{all_settle}
-use Rattle.rules.proofs.EveryLaws.{Rows, Every, every_rule}
-
--- ---- no rule refuses with the number of what is taken
-
-abbrev pub NotTaken : Outcome → Type 0
-NotTaken o = o ≡ Outcome.Taken → ⊥
+use Rattle.rules.specs.EveryLaws.{Rows, Every}
+use Rattle.rules.proofs.EveryLaws.{every_rule}
+use Rattle.rules.specs.RefusalLaws.{NotTaken, Untouched, IsTaken}
 
 pub not_taken : Rows NotTaken
 not_taken =
@@ -72,14 +70,6 @@ pub refusal_changes_nothing : (p : Port) (room : ℕ) (e : Event) → ((step p r
 unfolding step
 refusal_changes_nothing p room e n = as_refused p (tabled p room e) n
 
--- the same, part by part
-pub record Untouched (p : Port) (r : Result) : Type 0 where
-  pub port : r.port ≡ p
-  pub measurement : r.measurement ≡ MaybeMeasurement.None
-  pub sent : r.sent ≡ []
-  pub actions : r.actions ≡ []
-  pub reset : r.reset ≡ false
-
 untouched : (p : Port) (w : Worked Done) → ((answered p w).outcome ≡ Outcome.Taken → ⊥) → Untouched p (answered p w)
 untouched p (worked d) n = absurd (n refl)
 untouched p (refused o) n = record { port = refl; measurement = refl; sent = refl; actions = refl; reset = refl }
@@ -87,16 +77,6 @@ untouched p (refused o) n = record { port = refl; measurement = refl; sent = ref
 pub refusal_untouched : (p : Port) (room : ℕ) (e : Event) → ((step p room e).outcome ≡ Outcome.Taken → ⊥) → Untouched p (step p room e)
 unfolding step
 refusal_untouched p room e n = untouched p (tabled p room e) n
-
--- ---- what is taken
-
-pub record IsTaken (p : Port) (room : ℕ) (e : Event) : Type 0 where
-  pub enough : row1 p.config e room ≡ false
-  pub fit : unfit p ≡ false
-  pub limits : row3 e ≡ false
-  pub done : Done
-  pub rule : rule_of p e ≡ worked done
-  pub result : step p room e ≡ answered p (worked done)
 
 -- behind rows 1, 2 and 3 the rule answers
 pub step_rule : (p : Port) (room : ℕ) (e : Event) → row1 p.config e room ≡ false → unfit p ≡ false → row3 e ≡ false → step p room e ≡ answered p (rule_of p e)

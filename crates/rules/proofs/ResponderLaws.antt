@@ -7,38 +7,36 @@ use Rattle.time.specs.declared.WireTimestamp.{WireTimestamp}
 use Rattle.time.specs.Units.{time, time_words, duration, wire, correction, half}
 use Rattle.wire.specs.declared.MessageType.TheVariants as M
 use Rattle.wire.specs.Layout.{message_bytes, two_step_flag, two_step, timestamp_of}
-use Rattle.wire.proofs.LayoutLaws.{InWidths, HeaderWidths, header_widths}
+use Rattle.wire.specs.LayoutLaws.{InWidths, HeaderWidths}
+use Rattle.wire.proofs.LayoutLaws.{header_widths}
 use Rattle.octets.specs.Bytes.{Bytes}
 use Rattle.reading.specs.Reading.{read_of}
 use Rattle.reading.specs.ReadingLaws.{message_is}
 use Rattle.sent.specs.declared.Carried.TheVariants as S
 use Rattle.sent.specs.declared.Carried.{Carried}
 use Rattle.sent.specs.Messages.{header_for, no_flag, no_interval, answer_stamp, follow_stamp, p_delay_resp_of, p_delay_resp_follow_up_of}
-use Rattle.sent.proofs.SentLaws.{InLimits, Sendable, Made, carrying_is, pdelay_resp_sends, pdelay_resp_follow_up_sends}
-use Rattle.sent.proofs.CarriedLaws.{units_of, cut_to16, answer_means, follow_means}
+use Rattle.sent.specs.SentLaws.{InLimits, Sendable, Made}
+use Rattle.sent.proofs.SentLaws.{carrying_is, pdelay_resp_sends, pdelay_resp_follow_up_sends}
+use Rattle.sent.specs.CarriedLaws.{units_of, cut_to16}
+use Rattle.sent.proofs.CarriedLaws.{answer_means, follow_means}
 use Rattle.record.specs.Record.{with_peer}
 use Rattle.fitness.specs.Fit.{unfit}
-use Rattle.fitness.proofs.FitLaws.{FitConfig, fit_is, config_is}
+use Rattle.fitness.specs.FitLaws.{FitConfig}
+use Rattle.fitness.proofs.FitLaws.{fit_is, config_is}
 use Rattle.rules.specs.Names.{Time, Duration, Identity, Header, Body, Sender, Message, MessageAnswer, Reading, MaybeTime, MaybeIdentity, PeerState, Port, Context, Measurement, MaybeMeasurement}
 use Rattle.rules.specs.Worked.{worked}
 use Rattle.rules.specs.Events.{event, general, stamp, Done, Result, answered}
 use Rattle.rules.specs.Rules.{sender_of, on_event}
 use Rattle.rules.specs.Step.{rule_of, step}
-use Rattle.rules.proofs.AllLaws.{All, Silent}
+use Rattle.rules.specs.AllLaws.{All, Silent}
 use Rattle.rules.proofs.RuleLaws.{all_p_delay_req, all_response_stamped}
 use Rattle.rules.proofs.RefusalLaws.{taken_is, taken_has}
 use Rattle.rules.specs.LinearLaws.{num, ◌⊕◌, ◌⊖◌, equal_sums}
 use Rattle.rules.proofs.TakenLaws.{event_rule, wire-time}
-use Rattle.rules.proofs.RunLaws.{Taken, BothOrders, peer_part, after_two}
+use Rattle.rules.specs.RunLaws.{Taken, BothOrders}
+use Rattle.rules.proofs.RunLaws.{peer_part, after_two}
 use Rattle.rules.proofs.PeerRunLaws.{response_turns, follow_up_turns, complete_has}
-
--- ---- the responder: a message that it sends, with the record kept
-
-record Sends (q : Port) (a : MessageAnswer) (r : Result) : Type 0 where
-  message : Message
-  made : a ≡ MessageAnswer.Value message
-  sent : r.sent ≡ message_bytes message.header message.body
-  port : r.port ≡ q
+use Rattle.rules.specs.ResponderLaws.{Sends, Carries, way_of, MeasuresWay}
 
 module _ (q : Port) (room : ℕ) where
   -- a request that it hears at t2
@@ -66,14 +64,6 @@ pub fit_sender : (q : Port) → unfit q ≡ false → q.config.domain < 256 → 
 fit_sender q e domain identity =
     let c : FitConfig q.config = config_is q.config (fit_is q e).config in
     record { sdo = c.sdo; minor = omega (arith, c.minor); domain = domain; identity = identity }
-
--- bytes that carry a timestamp and a correction, and what these mean together
-record Carries (bytes : List ℕ) (header : ℕ → Header) (body : WireTimestamp → Body) (Means : WireTimestamp → ℕ → Type 0) : Type 0 where
-  timestamp : WireTimestamp
-  correction_word : ℕ
-  means : Means timestamp correction_word
-  at : Time
-  reads : read_of bytes ≡ Reading.Message (header correction_word) (body timestamp) at
 
 carries : (x : Carried) (header : ℕ → Header) (body : WireTimestamp → Body) (Means : WireTimestamp → ℕ → Type 0) (m : Message) (bytes : List ℕ) → Made x (λ v c. record { header = header c; body = body v }) m → Sendable m 54 → bytes ≡ message_bytes m.header m.body → ((v : WireTimestamp) (c : ℕ) → x ≡ S.Value v c → Means v c) → Carries bytes header body Means
 carries x header body Means m bytes a s e f =
@@ -114,19 +104,6 @@ module _ (s : Sender) where
     follow_up_heard t3 e =
         carries (follow_stamp t3) _ _ _ m bytes (carrying_is (follow_stamp t3) _ m e)
         (pdelay_resp_follow_up_sends s l request.id widths.id request.source widths.source t3 m e) sent (follow_means t3)
-
--- ---- the requester, with a peer exchange of that id whose send stamp stands
-
--- half of the way there and back: t4 - t1 less the responder's t3 - t2, both cut, and less what the request's correction gathered
-abbrev pub way_of : (t1 t2 t3 t4 : Time) → Header → ℤ
-way_of t1 t2 t3 t4 request =
-    (time t4 -ℤ time t1) -ℤ (pos (cut_to16 (units_of t3)) -ℤ pos (cut_to16 (units_of t2))) -ℤ correction request.correction
-
-pub record MeasuresWay (way : ℤ) (r : Result) : Type 0 where
-  pub event_time : Time
-  pub delay : Duration
-  pub measurement : r.measurement ≡ MaybeMeasurement.Some (Measurement.Peer event_time delay)
-  pub delay_is : duration delay ≡ half way
 
 -- the requester's sum, put together with what answer and follow-up mean
 way_is : (t1 t4 w c f cut₂ cut₃ asked : ℤ) → w -ℤ c ≡ cut₂ -ℤ asked → f ≡ cut₃ → ((t4 -ℤ c) -ℤ t1) -ℤ (f -ℤ w) ≡ (t4 -ℤ t1) -ℤ (cut₃ -ℤ cut₂) -ℤ asked

@@ -13,7 +13,9 @@ use Rattle.rules.specs.Events.{Done, nothing, changed, sending}
 use Rattle.rules.specs.Measuring.{measured, sync_out, delay_out, peer_out, less_mean, half_below, measure_sync, measure_delay, measure_peer, settle}
 use Rattle.rules.specs.Exchanges.{Change, stays, becomes, synced, followed_up, delay_answered, delay_stamped, peer_stamped, second_responder, awaited, with_response, responded, responded_later}
 use Rattle.rules.specs.Rules.{sync_sent, delay_sent, peer_sent, sender_of, from_master, becomes_faulty, sync, follow_up, delay_resp, peer_answer, p_delay_resp, p_delay_resp_follow_up, delay_req, p_delay_req, stamped, request, delay_timer_ends, sync_timer_ends}
-use Rattle.rules.proofs.AllLaws.{Comes, Anything, all_then, all_cond, all_as_slave, all_complete, all_peer_complete, all_kept, all_awaited, all_sent, all_timed, all_less_correction, all_plus_correction, all_between, all_less}
+use Rattle.rules.specs.AllLaws.{Comes, Anything}
+use Rattle.rules.proofs.AllLaws.{all_then, all_cond, all_as_slave, all_complete, all_peer_complete, all_kept, all_awaited, all_sent, all_timed, all_less_correction, all_plus_correction, all_between, all_less}
+use Rattle.rules.specs.RuleLaws.{PeerEnds}
 
 -- ---- the measurements
 
@@ -89,15 +91,6 @@ module _ (R : Outcome → Type 0) (sum : Worked Time) (s : Comes Anything R sum)
   all_responded_later h (PeerState.Measuring held r a b c d) =
       all_waited (eqb held h.id) c (λ t. PeerState.Measuring held (MaybeIdentity.Some h.source) a b (MaybeTime.Some t) d)
   all_responded_later h (PeerState.Measured held r) = tt
-
--- ---- received messages
-
--- each way that a peer answer ends: not for us; from a second responder; no change; stored
-pub record PeerEnds (P : Done → Type 0) (R : Outcome → Type 0) (p : Port) (h : Header) (requester : Identity) (answer : Worked (Change PeerState)) : Type 0 where
-  pub other : same_identity p.config.identity requester ≡ false → P (changed p false)
-  pub twice : same_identity p.config.identity requester ≡ true → second_responder h p.peer ≡ true → P (becomes_faulty p)
-  pub same : same_identity p.config.identity requester ≡ true → second_responder h p.peer ≡ false → answer ≡ worked stays → P (changed p false)
-  pub new : same_identity p.config.identity requester ≡ true → second_responder h p.peer ≡ false → (x : PeerState) → answer ≡ worked (becomes x) → Comes P R (settle (with_peer p x))
 
 module _ (P : Done → Type 0) (R : Outcome → Type 0) (range : R Outcome.Range) (p : Port) where
   module _ (idle : P (changed p false)) where

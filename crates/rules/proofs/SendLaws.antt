@@ -12,7 +12,8 @@ use Rattle.time.specs.Units.{time}
 use Rattle.time.specs.Lemmas.Integers.{not_below}
 use Rattle.sent.specs.declared.Carried.{Carried}
 use Rattle.sent.specs.Messages.{in_correction, follow_stamp, answer_stamp, carrying, follow_up_of, delay_resp_of, p_delay_resp_of, p_delay_resp_follow_up_of}
-use Rattle.sent.proofs.CarriedLaws.{units_of, late_from, less_of, follow_out_when, follow_out_is, answer_out_when, answer_out_is}
+use Rattle.sent.specs.CarriedLaws.{units_of, late_from, less_of}
+use Rattle.sent.proofs.CarriedLaws.{follow_out_when, follow_out_is, answer_out_when, answer_out_is}
 use Rattle.octets.proofs.BytesLaws.{apart}
 use Rattle.record.specs.Record.{is_master}
 use Rattle.rules.specs.Worked.{worked, ◌then◌, a_message}
@@ -20,7 +21,8 @@ use Rattle.rules.specs.Events.{sending}
 use Rattle.rules.specs.Rules.{delay_req, p_delay_req, stamped}
 use Rattle.rules.specs.WorkedOut.{Number, seconds, in_range, outside, seconds_of, less_f, sent_fields, no_sums, stamp_sums}
 use Rattle.rules.proofs.AgreeLaws.{by_test, passed, failed}
-use Rattle.rules.proofs.MeasureLaws.{SumsJudged}
+use Rattle.rules.specs.MeasureLaws.{SumsJudged}
+use Rattle.rules.specs.SendLaws.{Carries}
 
 -- ---- the fields
 
@@ -41,12 +43,6 @@ module _ (t : Time) (ns : List Number) where
   pub late : late_from ≤ units_of t → outside (seconds_of t ∷ ns) ≡ true
   unfolding time
   late h = failed _ (outside ns) (seconds_in (units_of t / 2 ^ 32 / 10 ^ 9) ∙ le-ltb (units_of t / 2 ^ 32 / 10 ^ 9) (2 ^ 48) (long (units_of t) h))
-
--- ---- what is carried: nothing exactly where a field is out of range
-
-abbrev pub Carries : List Number → Carried → Type 0
-Carries ns (Carried.Value w c) = outside ns ≡ false
-Carries ns Carried.Out = outside ns ≡ true
 
 -- from both directions of a law
 carries : (ns : List Number) (x : Carried) → ((outside ns ≡ true → x ≡ Carried.Out)) → (x ≡ Carried.Out → outside ns ≡ true) → Carries ns x

@@ -14,7 +14,8 @@ use Rattle.wire.proofs.LayoutLaws.{length_message}
 use Rattle.sent.specs.Messages.{follow_up_of, delay_resp_of}
 use Rattle.record.specs.Record.{is_master, is_slave, as_slave, with_sync, with_delay, with_slave, with_peer}
 use Rattle.fitness.specs.Fit.{draw_out}
-use Rattle.fitness.proofs.FitLaws.{fit_is, FitConfig, config_is}
+use Rattle.fitness.specs.FitLaws.{FitConfig}
+use Rattle.fitness.proofs.FitLaws.{fit_is, config_is}
 use Rattle.rules.specs.Names.{Body, Time, Header, Message, TimerAnswer, MaybeNanoseconds, Mechanism, Config, SlaveState, PortState, Port, Context, Action, Reading, Outcome}
 use Rattle.rules.specs.Worked.{Worked, refused, ◌then◌, a_timer}
 use Rattle.rules.specs.Events.{Event, event, general, stamp, sync_timer, delay_timer, filter_answer, set_state, Done, Result, packet, nothing, changed}
@@ -24,23 +25,23 @@ use Rattle.rules.specs.WorkedOut.{of_reading}
 use Rattle.rules.specs.Table.{ours, row3}
 use Rattle.rules.specs.Step.{viewed, rule_of, step}
 use Rattle.rules.specs.Sending.{no_time, left, came, Due, own_due, answer_due, stamp_due, request_due, heard_due, due, timers_in, if_due, update_due, timers_due, Sends}
-use Rattle.rules.proofs.AllLaws.{All, Silent, all_is, all_cond, all_sent}
+use Rattle.rules.specs.AllLaws.{All, Silent}
+use Rattle.rules.proofs.AllLaws.{all_is, all_cond, all_sent}
 use Rattle.rules.proofs.RuleLaws.{all_settle, all_sync, all_follow_up, all_delay_resp, all_p_delay_resp, all_p_delay_resp_follow_up, all_p_delay_req, all_delay_stamped, all_peer_stamped, all_response_stamped}
 use Rattle.rules.proofs.EveryLaws.{silent, all_viewed}
-use Rattle.rules.proofs.RefusalLaws.{IsTaken, taken_is}
+use Rattle.rules.specs.RefusalLaws.{IsTaken}
+use Rattle.rules.proofs.RefusalLaws.{taken_is}
 use Rattle.rules.specs.Actions.{is_timer, is_empty, one_is, timers_first, packets_in, packet_for}
-use Rattle.rules.proofs.ActionLaws.{Orderly, actions_orderly, packet_says}
+use Rattle.rules.specs.ActionLaws.{Orderly}
+use Rattle.rules.proofs.ActionLaws.{actions_orderly, packet_says}
 use Rattle.rules.proofs.DueLaws.{sync_tells, delay_req_tells, pdelay_req_tells, delay_resp_tells, pdelay_resp_tells, follow_up_tells, pdelay_resp_follow_up_tells, sent_once}
+use Rattle.rules.specs.SendingLaws.{Does, IsSent}
 
 -- ---- by rule: its message, and the timers among its actions
 
 refusing : (P : Done → Type 0) (b : Bool) (o w : Outcome) → All P (cond b (refused o) (refused w))
 refusing P true o w = tt
 refusing P false o w = tt
-
-pub record Does (c : Config) (x : Option Due) (timers : List Action) (d : Done) : Type 0 where
-  pub message : Sends c x d.message
-  pub set : timers_in d.actions ≡ timers
 
 -- a test decides whether anything is due
 by_test : (P : Option Due → Done → Type 0) (b : Bool) (x : Option Due) (w v : Worked Done) → All (P x) w → All (P none) v → All (P (cond b x none)) (cond b w v)
@@ -220,15 +221,6 @@ in_order (Action.SendEvent c l ∷ xs) e f =
 in_order (Action.SendGeneral l ∷ xs) e f =
     let (n, g) = both_hold (one_is is_timer xs) (timers_first xs) f in
     packet_behind (Action.SendGeneral l) xs (no_timers xs n) (in_order xs e g)
-
--- ---- a taken event
-
--- the message that is due, its bytes the packet, and its action behind the timers that are due
-pub record IsSent (p : Port) (e : Event) (r : Result) : Type 0 where
-  pub message : Option Message
-  pub as_due : Sends p.config (due p e) message
-  pub bytes : r.sent ≡ packet message
-  pub actions : r.actions ≡ timers_due p e ++ packet_for message
 
 module _ (p : Port) (room : ℕ) (e : Event) where
   taken_does : (k : IsTaken p room e) → Does p.config (due p e) (timers_due p e) k.done

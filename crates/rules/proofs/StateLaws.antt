@@ -9,7 +9,8 @@ use Rattle.reading.specs.Reading.{read_of}
 use Rattle.record.specs.Record.{state_number, is_master, is_faulty, is_slave, with_sync, with_delay, with_slave, with_peer}
 use Rattle.fitness.specs.Fit.{there}
 use Rattle.record.specs.Same.{same_identity}
-use Rattle.fitness.proofs.FitLaws.{IsFit, fit_is}
+use Rattle.fitness.specs.FitLaws.{IsFit}
+use Rattle.fitness.proofs.FitLaws.{fit_is}
 use Rattle.rules.specs.Names.{Time, Header, Identity, Body, MaybeDuration, Exchange, SlaveState, PortState, PeerState, Port, Context, NewState, Outcome, Reading}
 use Rattle.rules.specs.Worked.{Worked, worked, refused, less_correction, plus_correction}
 use Rattle.rules.specs.Events.{Event, event, general, stamp, sync_timer, delay_timer, filter_answer, set_state, Done, Result, answered, changed}
@@ -20,28 +21,15 @@ use Rattle.rules.specs.WorkedOut.{Completed, Sums, no_sums, corrected, differs, 
 use Rattle.rules.specs.Changes.{second_by_follow_up, second_by_answer, second_heard, is_peer, recovers, new_number, state_after, reset_by_set, resets}
 use Rattle.rules.specs.Table.{ours}
 use Rattle.rules.specs.Step.{viewed, rule_of, step}
-use Rattle.rules.proofs.AllLaws.{All, Silent, peer_done, all_is, all_map, all_cond, all_silent}
+use Rattle.rules.specs.AllLaws.{All, Silent, peer_done}
+use Rattle.rules.proofs.AllLaws.{all_is, all_map, all_cond, all_silent}
 use Rattle.rules.proofs.RuleLaws.{all_sync, all_follow_up, all_delay_resp, all_peer_answer, all_delay_req, all_p_delay_req, all_sync_stamped, all_delay_stamped, all_peer_stamped, all_response_stamped, all_sync_timer_ends, all_delay_timer_ends}
 use Rattle.rules.proofs.StoringLaws.{sync_open, delay_open, slave_fit, all_settle_sync, all_settle_delay, all_settle_peer}
 use Rattle.rules.proofs.PeerLaws.{second_same}
-use Rattle.rules.proofs.CompletingLaws.{becoming, response_completes, response_completes_lem, follow_up_completes, follow_up_completes_lem, stamp_completes, stamp_completes_lem, behind, gated, sync_not_peer, follow_up_not_peer, delay_resp_not_peer, delay_stamp_not_peer}
+use Rattle.rules.specs.CompletingLaws.{becoming, response_completes, follow_up_completes, stamp_completes}
+use Rattle.rules.proofs.CompletingLaws.{response_completes_lem, follow_up_completes_lem, stamp_completes_lem, behind, gated, sync_not_peer, follow_up_not_peer, delay_resp_not_peer, delay_stamp_not_peer}
 use Rattle.rules.proofs.RefusalLaws.{taken_has}
-
--- ---- events that touch neither
-
-record Quiet (p : Port) (d : Done) : Type 0 where
-  state : state_number d.port.state ≡ state_number p.state
-  reset : d.reset ≡ false
-
--- ---- what a message or a stamp does to state and reset
-
-record Turns (p : Port) (two back : Bool) (d : Done) : Type 0 where
-  state : state_number d.port.state ≡ cond two 3 (cond back 0 (state_number p.state))
-  reset : d.reset ≡ (two || back)
-
--- by a second responder, and by the peer exchange that the sums complete
-abbrev TurnsBy : Port → Bool → Sums → Done → Type 0
-TurnsBy p two sums d = Turns p two (is_faulty p.state && is_peer sums.completes) d
+use Rattle.rules.specs.StateLaws.{Quiet, Turns, TurnsBy, AfterState}
 
 as_turns : (p : Port) (two two' back back' : Bool) (d : Done) → two' ≡ two → back' ≡ back → Turns p two back d → Turns p two' back' d
 as_turns p two two' back back' d e f k =
@@ -214,12 +202,6 @@ module _ (p : Port) (fit : IsFit p) where
   general_read (Reading.Host h) = refusing _ (ours p.config h) Outcome.Host Outcome.Foreign
   general_read Reading.Version = tt
   general_read Reading.Malformed = tt
-
--- ---- all events
-
-pub record AfterState (p : Port) (e : Event) (r : Result) : Type 0 where
-  pub state : state_number r.port.state ≡ state_after p e
-  pub reset : r.reset ≡ resets p e
 
 set_number : (new : NewState) → state_number (state_of new) ≡ new_number new
 set_number NewState.Listening = refl

@@ -5,16 +5,14 @@ use Rattle.time.specs.Units.{time, in_time, time_of, correction}
 use Rattle.time.specs.Laws.{IsTime, time_is}
 use Rattle.wire.specs.Layout.{two_step}
 use Rattle.fitness.specs.Fit.{there, full, unanswered, peer_full}
-use Rattle.fitness.proofs.FitLaws.{FitTime, FitSync, FitDelay, FitPeer, peer_times_is, peer_times_when}
+use Rattle.fitness.specs.FitLaws.{FitTime, FitSync, FitDelay, FitPeer}
+use Rattle.fitness.proofs.FitLaws.{peer_times_is, peer_times_when}
 use Rattle.rules.specs.Names.{TimeAnswer, Time, Header, Identity, MaybeTime, MaybeIdentity, Exchange, PeerState}
 use Rattle.rules.specs.Worked.{Worked, a_time, less_correction, plus_correction}
 use Rattle.rules.specs.Exchanges.{Change, stays, becomes, awaited, received, two_step_sync, at_once, one_step_sync, synced, sent_at, followed_up, delay_answered, delay_stamped, peer_stamped, responded, responded_later}
-use Rattle.rules.proofs.AllLaws.{All, Silent, all_is, all_map, all_silent, all_awaited, peer_done}
-
--- ---- corrected times are times
-
-abbrev pub InTime : Time → Type 0
-InTime t = in_time (time t) ≡ true
+use Rattle.rules.specs.AllLaws.{All, Silent, peer_done}
+use Rattle.rules.proofs.AllLaws.{all_is, all_map, all_silent, all_awaited}
+use Rattle.rules.specs.StoredLaws.{InTime, Stores, SyncOrFull, DelayOrFull, PeerOrDone}
 
 summed : (z : ℤ) (a : TimeAnswer) → time_of z ≡ a → All (IsTime z) (a_time a)
 summed z (TimeAnswer.Value t) e = time_is z t e
@@ -37,12 +35,6 @@ less_in_time t h = in_time_lem _ (less_correction t h) (less_is t h)
 pub plus_in_time : (t : Time) (h : Header) → All InTime (plus_correction t h)
 plus_in_time t h = in_time_lem _ (plus_correction t h) (plus_is t h)
 
--- ---- what a change stores
-
-abbrev pub Stores : {A : Type 0} → (A → Type 0) → Change A → Type 0
-Stores P stays = Unit {0}
-Stores P (becomes x) = P x
-
 pub stores_is : {A : Type 0} (P : A → Type 0) (c : Change A) (x : A) → c ≡ becomes x → Stores P c → P x
 stores_is {A = A} P c x e k = subst (λ (y : Change A). Stores P y) e k
 
@@ -54,14 +46,6 @@ stores_cond P false c d k l = l
 all_stores : {A : Type 0} (P : A → Type 0) (is_open : Bool) (place : MaybeTime) (sum : Worked Time) (put : Time → A) → All InTime sum → ((t : Time) → InTime t → P (put t)) → All (Stores P) (awaited is_open place sum put)
 all_stores P is_open place sum put k f =
     all_awaited (Stores P) Silent is_open place sum put (all_silent sum) (λ e. tt) (λ t e g. f t (all_is InTime Silent sum t g k))
-
--- ---- the exchanges of a Slave
-
-abbrev pub SyncOrFull : Exchange → Type 0
-SyncOrFull x = full x ≡ false → FitSync x
-
-abbrev pub DelayOrFull : Exchange → Type 0
-DelayOrFull x = full x ≡ false → FitDelay x
 
 with_receive : (id : ℕ) (send : MaybeTime) (t : Time) → InTime t → SyncOrFull (Exchange.Measuring id send (MaybeTime.Some t))
 with_receive id MaybeTime.None t k e = k
@@ -118,11 +102,6 @@ delay_stamped_stores id t (Exchange.Measuring held send receive) k =
     stores_cond DelayOrFull (eqb held id) (cond (there send) stays (becomes (Exchange.Measuring held (MaybeTime.Some t) receive))) stays
     (stores_cond DelayOrFull (there send) stays (becomes (Exchange.Measuring held (MaybeTime.Some t) receive)) tt (delay_send held receive t k))
     tt
-
--- ---- the peer exchange
-
-abbrev pub PeerOrDone : PeerState → Type 0
-PeerOrDone x = peer_done x ≡ false → FitPeer x
 
 -- where the responder is known, all times there are all that is asked for
 done_full : (id : ℕ) (i : Identity) (a b c d : MaybeTime) → peer_done (PeerState.Measuring id (MaybeIdentity.Some i) a b c d) ≡ peer_full (PeerState.Measuring id (MaybeIdentity.Some i) a b c d)

@@ -4,13 +4,14 @@ use Rattle.std.proofs.Common.{sym, ap, ◌∙◌, subst}
 use Rattle.time.specs.Units.{half_of}
 use Rattle.record.specs.Record.{is_faulty, with_sync, with_delay, with_slave, with_peer}
 use Rattle.fitness.specs.Fit.{slave_full, full, peer_full}
-use Rattle.fitness.proofs.FitLaws.{FitSync, FitDelay, FitState}
+use Rattle.fitness.specs.FitLaws.{FitSync, FitDelay, FitState}
 use Rattle.rules.specs.Names.{Duration, Identity, MaybeTime, Measurement, Exchange, SlaveState, PortState, PeerState, Port, Outcome}
 use Rattle.rules.specs.Worked.{Worked}
 use Rattle.rules.specs.Events.{Done, changed, nothing}
 use Rattle.rules.specs.Measuring.{measure_sync, measure_delay, measure_peer, settle, measured, sync_out, delay_out, peer_out}
 use Rattle.rules.proofs.SettleLaws.{settle_sync, settle_delay, settle_peer}
-use Rattle.rules.proofs.AllLaws.{Comes, peer_done, all_complete, all_peer_complete}
+use Rattle.rules.specs.AllLaws.{Comes, peer_done}
+use Rattle.rules.proofs.AllLaws.{all_complete, all_peer_complete}
 use Rattle.rules.proofs.RuleLaws.{all_measure_sync, all_measure_delay, all_measure_peer}
 
 -- ---- a fit exchange is not complete

@@ -9,18 +9,12 @@ use Rattle.record.specs.Same.{same_identity}
 use Rattle.rules.specs.Events.{nothing}
 use Rattle.rules.specs.Rules.{sync, follow_up, delay_resp, stamped, on_event, on_general}
 use Rattle.rules.specs.WorkedOut.{Sums, no_sums, sync_sums, follow_up_sums, delay_resp_sums, stamp_sums, event_sums, later_sums}
-use Rattle.rules.proofs.MeasureLaws.{SumsJudged}
+use Rattle.rules.specs.MeasureLaws.{SumsJudged}
 use Rattle.rules.proofs.SyncLaws.{sync_sums_lem, follow_up_sums_lem}
 use Rattle.rules.proofs.DelayLaws.{delay_stamp_sums_lem, delay_resp_sums_lem}
 use Rattle.rules.proofs.PeerLaws.{peer_stamp_sums_lem, pdelay_resp_sums, pdelay_resp_follow_up_sums}
 use Rattle.rules.proofs.SendLaws.{pdelay_req_sums, delay_req_sums, sync_stamp_sums, response_stamp_sums}
-
--- what the rules need of a fit record: each open exchange lacks a time, an open sync has one, and an answered request its responder
-pub record Open (p : Port) : Type 0 where
-  pub timed : sync_timeless p.state ≡ false
-  pub slave : slave_full p.state ≡ false
-  pub answered : unanswered p.peer ≡ false
-  pub peer : peer_full p.peer ≡ false
+use Rattle.rules.specs.SumsLaws.{Open}
 
 pub fit_open : (p : Port) → unfit p ≡ false → Open p
 unfolding unfit

@@ -19,7 +19,8 @@ use Rattle.rules.specs.Rules.{keeping}
 use Rattle.rules.specs.Rules as Rules
 use Rattle.rules.specs.WorkedOut.{Completed, unfinished, sync, opened, receive_in, send_in, held, no_sums, corrected, numbers_of, sync_sums, follow_up_sums}
 use Rattle.rules.proofs.AgreeLaws.{by_test, agrees_time}
-use Rattle.rules.proofs.MeasureLaws.{Judged, SumsJudged, sync_judged}
+use Rattle.rules.specs.MeasureLaws.{Judged, SumsJudged}
+use Rattle.rules.proofs.MeasureLaws.{sync_judged}
 use Rattle.rules.proofs.SettleLaws.{settle_sync}
 
 module _ (p : Port) (s : SlaveState) (q : peer_full p.peer ≡ false) (e : full s.delay ≡ false) where

@@ -13,7 +13,8 @@ use Rattle.reading.specs.Reading as Wire
 use Rattle.reading.specs.ReadingLaws.{version_when, malformed_when, host_when, message_of_bytes, past_row5}
 use Rattle.record.specs.Record.{is_master, as_slave}
 use Rattle.fitness.specs.Fit.{unfit, draw_out}
-use Rattle.fitness.proofs.FitLaws.{FitConfig, config_is, fit_is}
+use Rattle.fitness.specs.FitLaws.{FitConfig}
+use Rattle.fitness.proofs.FitLaws.{config_is, fit_is}
 use Rattle.rules.specs.Worked.{Worked, worked, refused, ◌then◌, a_timer}
 use Rattle.rules.specs.Events.{Event, event, general, stamp, sync_timer, delay_timer, filter_answer, set_state, Done, answered, nothing}
 use Rattle.rules.specs.Rules.{on_event, on_general, stamped, request, sync_timer_ends, delay_timer_ends, filtered, state_set}
@@ -21,14 +22,12 @@ use Rattle.rules.specs.Table.{row1, row3, row4, row5, row6, row8, ours, hosts, t
 use Rattle.rules.specs.WorkedOut.{Number, Sums, no_sums, numbers_of, outside, of_reading, event_sums, later_sums, stamp_sums, sums_of, worked_out, row7}
 use Rattle.rules.specs.Step.{unless, viewed, rule_of, step}
 use Rattle.rules.specs.Given.{BytesIn}
-use Rattle.rules.proofs.AgreeLaws.{Agrees, by_test}
+use Rattle.rules.specs.AgreeLaws.{Agrees}
+use Rattle.rules.proofs.AgreeLaws.{by_test}
 use Rattle.rules.specs.Formulas.{Says}
-use Rattle.rules.proofs.MeasureLaws.{SumsJudged}
+use Rattle.rules.specs.MeasureLaws.{SumsJudged}
 use Rattle.rules.proofs.SumsLaws.{fit_open, event_judged, later_judged, stamp_judged}
-
-abbrev pub outcome_of : Worked Done → Outcome
-outcome_of (worked d) = Outcome.Taken
-outcome_of (refused o) = o
+use Rattle.rules.specs.TableLaws.{outcome_of}
 
 answered_outcome : (p : Port) (w : Worked Done) → (answered p w).outcome ≡ outcome_of w
 answered_outcome p (worked d) = refl

@@ -18,7 +18,8 @@ use Rattle.rules.specs.Rules.{on_event, on_general}
 use Rattle.rules.specs.Table.{ours}
 use Rattle.rules.specs.Step.{viewed, rule_of}
 use Rattle.rules.proofs.AgreeLaws.{by_test}
-use Rattle.rules.proofs.AllLaws.{All, Silent, all_cond}
+use Rattle.rules.specs.AllLaws.{All, Silent}
+use Rattle.rules.proofs.AllLaws.{all_cond}
 
 module _ (h : Header) (b : Body) (t : Time) where
   -- what holds by both entries

@@ -4,12 +4,14 @@ use Rattle.std.proofs.Math.Path.{refl}
 use Rattle.std.proofs.Common.{sym, ap, ◌∙◌, subst, arith, lit≤}
 use Rattle.std.proofs.Math.Option.{Option, none, some}
 use Rattle.wire.specs.Layout.{message_bytes}
-use Rattle.wire.proofs.LayoutLaws.{HeaderWidths, header_widths}
+use Rattle.wire.specs.LayoutLaws.{HeaderWidths}
+use Rattle.wire.proofs.LayoutLaws.{header_widths}
 use Rattle.reading.specs.Reading.{read_of}
 use Rattle.reading.specs.ReadingLaws.{message_is}
 use Rattle.writing.specs.declared.Written.TheVariants as W
 use Rattle.writing.specs.Writing.{write_of}
-use Rattle.sent.proofs.SentLaws.{InLimits, Sendable, sync_sends, delay_req_sends, pdelay_req_sends, follow_up_sends, delay_resp_sends, pdelay_resp_sends, pdelay_resp_follow_up_sends}
+use Rattle.sent.specs.SentLaws.{InLimits, Sendable}
+use Rattle.sent.proofs.SentLaws.{sync_sends, delay_req_sends, pdelay_req_sends, follow_up_sends, delay_resp_sends, pdelay_resp_sends, pdelay_resp_follow_up_sends}
 use Rattle.fitness.specs.Fit.{unfit}
 use Rattle.rules.specs.Names.{Time, Header, Body, Message, Config, Context, Port}
 use Rattle.rules.specs.Worked.{Worked, worked}
@@ -18,24 +20,16 @@ use Rattle.rules.specs.Rules.{sender_of, on_event, on_general, stamped, filtered
 use Rattle.rules.specs.Step.{rule_of}
 use Rattle.rules.specs.Sending.{Due, stamp_due, heard_due, Sends}
 use Rattle.rules.specs.Given.{StampIn, InTypes}
-use Rattle.rules.proofs.AllLaws.{All, Silent, all_is, all_map}
+use Rattle.rules.specs.AllLaws.{All, Silent}
+use Rattle.rules.proofs.AllLaws.{all_is, all_map}
 use Rattle.rules.proofs.RuleLaws.{all_delay_req, all_p_delay_req, all_sync_stamped, all_response_stamped, all_sync_timer_ends, all_delay_timer_ends}
 use Rattle.rules.proofs.EveryLaws.{silent, all_viewed}
 use Rattle.rules.proofs.SendingLaws.{Only, on_general_lem, on_event_lem, on_stamp}
 use Rattle.rules.proofs.ResponderLaws.{fit_sender}
-
--- ---- a message that any buffer of 64 bytes or more takes whole; where none is sent, nothing is said
-
-abbrev pub Writable : Option Message → Type 0
-Writable none = Unit {0}
-Writable (some m) =
-    (room : ℕ) → 64 ≤ room → write_of m.header m.body room ≡ W.Length (length (message_bytes m.header m.body))
+use Rattle.rules.specs.WritableLaws.{Writable, DoneWritable}
 
 buffer_takes : (m : Message) (n : ℕ) → n ≤ 64 → Sendable m n → Writable (some m)
 buffer_takes m n small k room enough = k.writes room (omega (arith, small, enough)) ∙ ap W.Length (sym k.length_is)
-
-abbrev DoneWritable : Done → Type 0
-DoneWritable d = Writable d.message
 
 -- ---- by rule
 

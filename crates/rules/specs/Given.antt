@@ -1,7 +1,7 @@
 -- What is known of a record and of an event beforehand, because code holds its numbers in so many bits: a message's list holds bytes, a record's and a context's numbers have room on the wire.
 use Rattle.std.specs.Prelude.{◌^◌, ◌<◌}
 use Rattle.octets.specs.Bytes.{Bytes}
-use Rattle.wire.proofs.LayoutLaws.{InWidths}
+use Rattle.wire.specs.LayoutLaws.{InWidths}
 use Rattle.rules.specs.Names.{Context, Port}
 use Rattle.rules.specs.Events.{Event, event, general, stamp, sync_timer, delay_timer, filter_answer, set_state}
 

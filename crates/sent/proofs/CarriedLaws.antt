@@ -18,36 +18,9 @@ use Rattle.sent.specs.declared.CorrectionAnswer.{CorrectionAnswer}
 use Rattle.sent.specs.declared.CorrectionAnswer.TheVariants as C
 use Rattle.sent.specs.declared.Carried.TheVariants as S
 use Rattle.sent.specs.Messages.{in_correction, correction_of, with_correction, less_fraction, answer_stamp, fraction, follow_stamp}
-use Rattle.sent.proofs.Laws.{IsCorrection, correction_is, correction_out_when, correction_out_is}
-
--- ---- a stamp's numbers
-
-abbrev pub units_of : Time → ℕ
-units_of t = spelled t.hi t.lo
-
--- f: the fraction of a nanosecond in 2 ^ -16 ns
-abbrev pub fraction_of : Time → ℕ
-fraction_of t = units_of t % 2 ^ 32 / 2 ^ 16
-
--- what is left of n units without the fraction's low 16 bits
-abbrev pub cut_to16 : ℕ → ℕ
-cut_to16 n = n / 2 ^ 16 * 2 ^ 16
-
--- the units of 2 ^ 48 seconds, too many from there on
-abbrev pub late_from : ℕ
-late_from = 2 ^ 48 * 10 ^ 9 * 2 ^ 32
-
--- what an answer's correction has to be
-abbrev pub less_of : ℕ → Time → ℤ
-less_of asked t = signed 64 asked -ℤ pos (fraction_of t)
-
--- ---- what was carried
-
--- the room that a timestamp and a correction take
-pub record HasRoom (w : WireTimestamp) (c : ℕ) : Type 0 where
-  pub seconds : w.seconds < 2 ^ 48
-  pub nanos : w.nanos < 10 ^ 9
-  pub correction : c < 2 ^ 64
+use Rattle.sent.specs.Laws.{IsCorrection}
+use Rattle.sent.proofs.Laws.{correction_is, correction_out_when, correction_out_is}
+use Rattle.sent.specs.CarriedLaws.{units_of, fraction_of, cut_to16, late_from, less_of, HasRoom, Parts, Scaled, stamp_of}
 
 fraction_from : (a : WireAnswer) (w : WireTimestamp) (c : ℕ) → fraction a ≡ S.Value w c → a ≡ W.Value w c
 fraction_from (W.Value v f) w c e =
@@ -68,12 +41,6 @@ module _ (t : Time) (w : WireTimestamp) (c : ℕ) (e : follow_stamp t ≡ S.Valu
   pub follow_means : wire w +ℤ correction c ≡ pos (cut_to16 (units_of t))
   follow_means = follow_sent.cut
 
--- where an answer's two parts come from
-record Parts (c : ℕ) (a : WireAnswer) (w : WireTimestamp) (r : ℕ) : Type 0 where
-  f : ℕ
-  stamp : a ≡ W.Value w f
-  less : correction_of (signed 64 c -ℤ pos f) ≡ C.Value r
-
 less_from : (c : ℕ) (a : WireAnswer) (w : WireTimestamp) (r : ℕ) → less_fraction c a ≡ S.Value w r → Parts c a w r
 less_from c (W.Value v f) w r e = go (correction_of (signed 64 c -ℤ pos f)) refl
   where
@@ -87,10 +54,6 @@ less_from c (W.Value v f) w r e = go (correction_of (signed 64 c -ℤ pos f)) re
         let h : S.Out ≡ S.Value w r = sym (ap (with_correction v) g) ∙ e in
         absurd (apart cc)
 less_from c W.Out w r e = absurd (apart cc)
-
--- x - (z - f) × 65,536 is x + f × 65,536 - z × 65,536: where z is a difference, and for each z
-abbrev Scaled : ℕ → ℕ → ℤ → Type 0
-Scaled x f z = pos x -ℤ (z -ℤ pos f) *ℤ pos 65536 ≡ pos (x + f * 65536) -ℤ z *ℤ pos 65536
 
 scaled_difference : (x f p q : ℕ) → Scaled x f (sub_ℕ p q)
 scaled_difference x f p q =
@@ -133,12 +96,6 @@ module _ (asked : ℕ) (t : Time) (w : WireTimestamp) (c : ℕ) (e : answer_stam
       ap (λ (z : ℤ). pos x -ℤ z *ℤ pos 65536) answer_correction.value
       ∙ scaled x parts.f (signed 64 asked)
       ∙ ap (λ (z : ℤ). z -ℤ correction asked) whole
-
--- ---- when something is carried, and when nothing
-
--- whole seconds, and the whole nanoseconds of the last
-abbrev pub stamp_of : Time → WireTimestamp
-stamp_of t = record { seconds = units_of t / 2 ^ 32 / 10 ^ 9; nanos = units_of t / 2 ^ 32 % 10 ^ 9 }
 
 pub follow_timely : (t : Time) → units_of t < late_from → follow_stamp t ≡ S.Value (stamp_of t) (fraction_of t)
 unfolding follow_stamp time

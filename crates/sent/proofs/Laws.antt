@@ -11,6 +11,7 @@ use Rattle.time.specs.Lemmas.Integers.{sub_ge, sub_lt, pos_minus, pos_sub, diffe
 use Rattle.sent.specs.declared.CorrectionAnswer.TheVariants as C
 use Rattle.sent.specs.Messages.{in_correction, word, correction_of}
 use Rattle.octets.proofs.BytesLaws.{apart}
+use Rattle.sent.specs.Laws.{IsCorrection}
 
 -- as one bound of ℕ: `mag z` is n both for n and for -(n + 1)
 in_correction_lem : (z : ℤ) → in_correction z ≡ ltb (mag z) (2 ^ 63)
@@ -63,12 +64,6 @@ word_means (negsuc n) h =
 word_small : (z : ℤ) → mag z < 2 ^ 63 → word z < 2 ^ 64
 word_small (pos n) h = omega arith
 word_small (negsuc n) h = omega arith
-
--- what a correction that was answered is: its word means the number asked for, which 64 bits hold
-pub record IsCorrection (z : ℤ) (c : ℕ) : Type 0 where
-  pub value : signed 64 c ≡ z
-  pub within : in_correction z ≡ true
-  pub small : c < 2 ^ 64
 
 pub correction_is : (z : ℤ) (c : ℕ) → correction_of z ≡ C.Value c → IsCorrection z c
 unfolding correction_of

@@ -15,7 +15,8 @@ use Rattle.sent.specs.declared.Carried.{Carried}
 use Rattle.sent.specs.declared.Carried.TheVariants as S
 use Rattle.sent.specs.Messages.{in_correction, word, correction_of, with_correction, answer_stamp, follow_stamp, carrying, follow_up_of, p_delay_resp_of, delay_resp_of, p_delay_resp_follow_up_of}
 use Rattle.sent.specs.Numbers.{correction_number, carried_number, message_number}
-use Rattle.sent.proofs.CarriedLaws.{units_of, late_from, less_of, stamp_of, follow_timely, follow_out_when, answer_timely, answer_out_when}
+use Rattle.sent.specs.CarriedLaws.{units_of, late_from, less_of, stamp_of}
+use Rattle.sent.proofs.CarriedLaws.{follow_timely, follow_out_when, answer_timely, answer_out_when}
 
 picked : (b : Bool) (c : ℕ) → correction_number (cond b (C.Value c) C.Out) ≡ cond b 0 7
 picked true c = refl

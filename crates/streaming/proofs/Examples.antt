@@ -13,37 +13,7 @@ use Rattle.wire.specs.Layout.{identity_at}
 use Rattle.event_log.specs.Fields.{time_at, duration_at, inner_of, context_at, state_at, event_of, general_of, stamp_of, sync_timer_of, delay_timer_of, update_of, filter_of, set_state_of, config_of}
 use Rattle.event_log.specs.Fields.{field_of, stated_of, possible, none_of, cut_of, front_of}
 use Rattle.streaming.specs.Log.{next, good, bad, rest, scan_from, scan, end, bad_at, ended, gathered, read_log}
-
--- clock 258, port 7, sdo id 256, domain 4, minor 1, peer, interval bytes 3 and 255, asymmetry 9
-abbrev configuration : List ℕ
-configuration = 0x0F ∷ 0 ∷ 33 ∷ (replicate 6 0 ++ (1 ∷ 2 ∷ 0 ∷ 7 ∷ 1 ∷ 0 ∷ 4 ∷ 1 ∷ 1 ∷ 3 ∷ 255 ∷ [])) ++ (replicate 15 0 ++ (9 ∷ []))
-
-abbrev config : Config
-config =
-    record {
-      identity = record { clock = 258; port = 7 };
-      sdo = 256;
-      domain = 4;
-      minor = 1;
-      mechanism = Mechanism.Peer;
-      delay_interval = 3;
-      sync_interval = 255;
-      asymmetry = record { hi = 0; lo = 9 };
-    }
-
--- the message 65 66 67, received at time 2^64 + 5
-abbrev message : List ℕ
-message = 0x10 ∷ 0 ∷ 25 ∷ 1 ∷ 0 ∷ 16 ∷ (replicate 7 0 ++ (1 ∷ replicate 7 0 ++ (5 ∷ 2 ∷ 0 ∷ 3 ∷ 65 ∷ 66 ∷ 67 ∷ [])))
-
-abbrev timer : List ℕ
-timer = 0x13 ∷ 0 ∷ 0 ∷ []
-
--- a timer's field that holds a byte
-abbrev wrong : List ℕ
-wrong = 0x13 ∷ 0 ∷ 1 ∷ 9 ∷ []
-
-abbrev heard : Event
-heard = event (record { hi = 1; lo = 5 }) (65 ∷ 66 ∷ 67 ∷ [])
+use Rattle.streaming.specs.Examples.{configuration, config, message, timer, wrong, heard, three, stamped, answers, answer, slave}
 
 -- 36 bytes, 28 and 3 come before the bad field, so it stands at 67
 pub worked : read_log (configuration ++ (message ++ (timer ++ wrong))) ≡ record { configuration = some config; events = heard ∷ sync_timer ∷ []; ending = bad_at 67 }
@@ -81,34 +51,9 @@ pub cut_long : scan false false 64 (0x13 ∷ 1 ∷ 0 ∷ []) ≡ bad 64
 unfolding number stated_of possible cut_of front_of scan_from scan
 cut_long = refl
 
--- ---- the other kinds, each with its size
-
--- an empty message, a stamp of kind 3 with its identity, a draw
-abbrev three : List ℕ
-three =
-    (0x11 ∷ 0 ∷ 3 ∷ 2 ∷ 0 ∷ 0 ∷ [])
-    ++ ((0x12 ∷ 0 ∷ 35 ∷ 1 ∷ 0 ∷ 16 ∷ replicate 15 0 ++ (8 ∷ 3 ∷ 0 ∷ 13 ∷ 3 ∷ 1 ∷ 2 ∷ replicate 7 0 ++ (6 ∷ 0 ∷ 4 ∷ [])))
-    ++ (0x14 ∷ 0 ∷ 11 ∷ 4 ∷ 0 ∷ 8 ∷ replicate 6 0 ++ (1 ∷ 0 ∷ [])))
-
-abbrev stamped : Event
-stamped = stamp (record { hi = 0; lo = 8 }) (Context.PDelayResp 258 (record { clock = 6; port = 4 }))
-
 pub kinds : scan true false 36 three ≡ next (general []) 6 (next stamped 38 (next (delay_timer 256) 14 good))
 unfolding number identity_at time_at inner_of context_at general_of stamp_of delay_timer_of field_of stated_of none_of front_of scan_from scan
 kinds = refl
-
--- a filter's answer with both of its fields, with one and with none; a state with its master
-abbrev answers : List ℕ
-answers =
-    (0x15 ∷ 0 ∷ 30 ∷ 5 ∷ 0 ∷ 16 ∷ replicate 15 0 ++ (3 ∷ 6 ∷ 0 ∷ 8 ∷ replicate 7 0 ++ (2 ∷ [])))
-    ++ ((0x15 ∷ 0 ∷ 11 ∷ 6 ∷ 0 ∷ 8 ∷ replicate 7 0 ++ (2 ∷ []))
-    ++ (0x15 ∷ 0 ∷ 0 ∷ 0x16 ∷ 0 ∷ 14 ∷ 7 ∷ 0 ∷ 11 ∷ 4 ∷ replicate 7 0 ++ (6 ∷ 0 ∷ 4 ∷ [])))
-
-abbrev answer : MaybeDuration → MaybeNanoseconds → Event
-answer d n = filter_answer (record { mean_delay = d; next_update = n })
-
-abbrev slave : Event
-slave = set_state (NewState.Slave (record { clock = 6; port = 4 }))
 
 pub answered : scan true false 36 answers ≡ next (answer (MaybeDuration.Some (record { hi = 0; lo = 3 })) (MaybeNanoseconds.Some 2)) 33
     (next (answer MaybeDuration.None (MaybeNanoseconds.Some 2)) 14 (next (answer MaybeDuration.None MaybeNanoseconds.None) 3 (next slave 17 good)))

@@ -2,3 +2,4 @@
 pub mod Log
 pub mod Streaming
 pub mod FrontLaws
+pub mod Examples

@@ -8,6 +8,7 @@ use Rattle.timers.specs.declared.TimerAnswer.TheVariants.{Value, Interval, Draw}
 use Rattle.timers.specs.Timers.{interval, in_interval, in_draw, sync_timer, to_nearest, odd_of, delay_timer, sync_timer_of, delay_timer_of}
 use Rattle.time.specs.Laws.{signed_low, signed_high}
 use Rattle.time.specs.Lemmas.Integers.{sub_ge, sub_lt, pos_minus}
+use Rattle.timers.specs.TimerLaws.{Near}
 
 -- ---- a log interval's byte, and a draw
 
@@ -85,11 +86,6 @@ no_half n k m h e = odd_even k ((2 * m + 1) * 2 ^ above_36 n) (e ∙ split)
     split =
         ap (λ (x : ℕ). (2 * m + 1) * 2 ^ x) (exponent n h) ∙ ap (λ (x : ℕ). (2 * m + 1) * x) (pow-add 2 (above_36 n) 36)
         ∙ sym (mul_assoc (2 * m + 1) (2 ^ above_36 n) (2 ^ 36))
-
--- r is less than half of d away from a / d
-pub record Near (a d r : ℕ) : Type 0 where
-  pub above : 2 * (r * d) < 2 * a + d
-  pub below : 2 * a < 2 * (r * d) + d
 
 -- one number at the most is so near
 pub near_unique : (a d r s : ℕ) → Near a d r → Near a d s → r ≡ s

@@ -8,7 +8,7 @@ use Rattle.wire.specs.Layout.{row, type_of}
 use Rattle.sent.specs.Messages.{p_delay_resp_of, p_delay_resp_follow_up_of}
 use Rattle.record.specs.Ids.{id_after}
 use Rattle.fitness.specs.Fit.{config_out, unfit}
-use Rattle.fitness.proofs.FitLaws.{FitSync}
+use Rattle.fitness.specs.FitLaws.{FitSync}
 use Rattle.record.specs.Same.{same_identity}
 use Rattle.record.proofs.SameLaws.{same_identity_lem}
 use Rattle.rules.specs.Names.{MessageAnswer, Time, Identity, Header, Body, MaybeDuration, Exchange, PeerState, Mechanism, Config, Port, Outcome, Message, Context, Action, MaybeMeasurement}
@@ -23,25 +23,17 @@ use Rattle.rules.specs.WorkedOut.{row7, opened, peer_opened}
 use Rattle.undisturbed.specs.Whole.{Not, Foreign, other_sync, other_follow_up, other_delay_resp, delay_resp_for_other, p_delay_resp_for_other, p_delay_resp_follow_up_for_other, a_p_delay_req, a_p_delay_resp_stamp, unheard, FilterAnswer, a_filter_answer}
 use Rattle.undisturbed.specs.Undisturbed.{measured_in}
 use Rattle.undisturbed.specs.Harmless.{Harmless, a_delay_req, on_wrong_entry, a_sync_timer, a_sync_stamp, stray_delay_stamp, stray_peer_stamp}
-use Rattle.undisturbed.proofs.PlainLaws.{plain, plain_reply}
-use Rattle.undisturbed.proofs.SideLaws.{FreeDone}
+use Rattle.undisturbed.specs.PlainLaws.{plain, plain_reply}
+use Rattle.undisturbed.specs.SideLaws.{FreeDone}
 use Rattle.rules.proofs.AgreeLaws.{by_test}
 use Rattle.rules.proofs.TableLaws.{first_row}
-use Rattle.rules.proofs.ExactlyWhen.{NoneOf, exactly_when}
+use Rattle.rules.specs.ExactlyWhen.{NoneOf}
+use Rattle.rules.proofs.ExactlyWhen.{exactly_when}
 use Rattle.rules.proofs.RefusalLaws.{refusal_changes_nothing}
 use Rattle.rules.proofs.TakenLaws.{by_entry}
 use Rattle.undisturbed.specs.StandingLaws.{Asking, Shared, stands, FitAsking, gated, step-stands, unfit-stands}
 use Rattle.undisturbed.proofs.ReadLaws.{event_rule_is, brought_rule_is, general_rule_is}
-
--- what an event says besides the record
-record Said : Type 0 where
-  shared : Shared
-  message : Option Message
-  actions : List Action
-
--- nothing at all
-abbrev silence : Shared → Said
-silence z = record { shared = z; message = none; actions = [] }
+use Rattle.undisturbed.specs.BesideLaws.{Said, silence}
 
 -- another identity is not the same
 not_same : (a b : Identity) → Not (b ≡ a) → same_identity a b ≡ false

@@ -10,7 +10,8 @@ use Rattle.time.specs.declared.WireTimestamp.{WireTimestamp}
 use Rattle.time.specs.Units.{time, wire, correction}
 use Rattle.sent.specs.Messages.{delay_req_of}
 use Rattle.fitness.specs.Fit.{there}
-use Rattle.fitness.proofs.FitLaws.{FitSync, FitPeer, fit_is}
+use Rattle.fitness.specs.FitLaws.{FitSync, FitPeer}
+use Rattle.fitness.proofs.FitLaws.{fit_is}
 use Rattle.record.proofs.SameLaws.{same_identity_lem}
 use Rattle.record.specs.Ids.{id_after}
 use Rattle.rules.specs.Names.{Time, Duration, Identity, Header, Body, MaybeTime, MaybeDuration, Exchange, PeerState, Mechanism, Config, Ids, Port, Measurement, Context, Action}
@@ -26,20 +27,25 @@ use Rattle.undisturbed.specs.Runs.{requests, Item, joined}
 use Rattle.undisturbed.specs.Times.{Times, times_in, times_of, received_at, request_of}
 use Rattle.undisturbed.specs.Whole.{Piece, the_sync, the_follow_up, the_stamp, the_delay_resp, the_p_delay_resp, the_p_delay_resp_follow_up, InAnyOrder, delay_pieces, FromMaster, OfDelay, a_delay_stamp, a_delay_resp, asked, RequestAnswers, RequestExchanges}
 use Rattle.undisturbed.specs.Undisturbed.{is_open}
-use Rattle.rules.proofs.AllLaws.{Comes, Anything, Silent, all_map, all_then, all_less_correction, all_between, all_less}
+use Rattle.rules.specs.AllLaws.{Comes, Anything, Silent}
+use Rattle.rules.proofs.AllLaws.{all_map, all_then, all_less_correction, all_between, all_less}
 use Rattle.rules.proofs.AgreeLaws.{then_then}
 use Rattle.rules.proofs.MeasureLaws.{delay_judged}
 use Rattle.rules.proofs.SettleLaws.{settle_delay, not_both}
 use Rattle.rules.proofs.StoringLaws.{sync_open}
-use Rattle.rules.proofs.RefusalLaws.{NotTaken, not_taken}
+use Rattle.rules.specs.RefusalLaws.{NotTaken}
+use Rattle.rules.proofs.RefusalLaws.{not_taken}
 use Rattle.rules.proofs.TakenLaws.{brought_time}
 use Rattle.rules.proofs.RunLaws.{less_worth}
-use Rattle.undisturbed.proofs.SideLaws.{Goes}
+use Rattle.undisturbed.specs.SideLaws.{Goes}
 use Rattle.undisturbed.specs.StandingLaws.{Asking, Shared, slave_with, FitAsking, three_steps, three_steps_lem, three_come}
-use Rattle.undisturbed.proofs.TimesLaws.{overlap, finished, Bag, empty_bag, with_receive, HoldsAll, FillsAll, lacks_receive, one_missing, BothThere, both_there}
+use Rattle.undisturbed.specs.TimesLaws.{overlap, finished, Bag, empty_bag, with_receive, HoldsAll, FillsAll}
+use Rattle.undisturbed.proofs.TimesLaws.{lacks_receive, one_missing, BothThere, both_there}
 use Rattle.undisturbed.proofs.ReadLaws.{brought_rule_is, brought_times}
-use Rattle.undisturbed.proofs.LaneLaws.{Stores, Completes, Rest, rest_goes}
-use Rattle.undisturbed.proofs.OrderLaws.{Shape, shape_of, no_shape, two_there, delay_finished, OfAny, as_rest}
+use Rattle.undisturbed.specs.LaneLaws.{Rest}
+use Rattle.undisturbed.proofs.LaneLaws.{Stores, Completes, rest_goes}
+use Rattle.undisturbed.specs.OrderLaws.{Shape, shape_of, no_shape, two_there, OfAny}
+use Rattle.undisturbed.proofs.OrderLaws.{delay_finished, as_rest}
 use Rattle.undisturbed.proofs.RequestSideLaws.{asks, AskingExchange, AskingGoes, asking_gate, stamp_stores, request_part_lem, nothing_yet}
 
 -- a peer exchange that is not open is open with no id

@@ -4,7 +4,8 @@ use Rattle.std.proofs.Math.Path.{refl, ap}
 use Rattle.std.proofs.Common.{◌∙◌}
 use mathlib.Core.List.{List, [], ◌∷◌, ◌++◌}
 use Rattle.undisturbed.specs.Runs.{Lane, syncs, requests, a_part, the_last, Place, within, free, Item, placed, gather_from, gather, lane, Each, log_of, end_of, Told, Once}
-use Rattle.undisturbed.proofs.SideLaws.{Goes, Frees}
+use Rattle.undisturbed.specs.SideLaws.{Goes, Frees}
+use Rattle.undisturbed.specs.FrameLaws.{FitAny, swapped}
 
 -- ---- runs that lead from here to there
 
@@ -65,15 +66,6 @@ module _ {L R Z S E A : Type 0} {put : L → R → Z → S} {act : S → E → S
   -- the last has come: the parts are done right before it
   behind_last : {l0 l m : L} {r : R} {z y : Z} {hs rest : List (Item E)} {ks more : List (Item (E × A))} {e : E} {a : A} {t : S} (p : Place) → Behind put act FitL FitR l0 hs ks l → FitR r → act (put l r z) e ≡ (put m r y, a) → Leads act (put m r y) rest more t → Leads act (put l0 r z) (hs ++ (placed p e ∷ rest)) (ks ++ (placed p (e, a) ∷ more)) t
   behind_last {r = r} {z} p b fr does g = leads_then (b.held r z fr) (leads_by does g)
-
--- ---- the induction
-
--- fit for one exchange or another
-abbrev FitAny : {I Y : Type 0} → (I → Y → Type 0) → Y → Type 0
-FitAny {I} FitY y = (i : I) × FitY i y
-
-abbrev swapped : {X Y Z S : Type 0} → (X → Y → Z → S) → Y → X → Z → S
-swapped mk y x z = mk x y z
 
 -- x and y are the two sides of what stands, mk x y z, and z is what both share; i says which request is open or comes next
 module _ {X Y Z I S E A C M : Type 0} (mk : X → Y → Z → S) (act : S → E → S × A) (FitX : X → Type 0) (FitY : I → Y → Type 0) (next : I → I)

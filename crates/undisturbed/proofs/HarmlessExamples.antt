@@ -11,31 +11,10 @@ use Rattle.undisturbed.specs.Undisturbed.{happens, measured_in, AllStand, Woven,
 use Rattle.undisturbed.specs.Harmless.{Harmless}
 use Rattle.undisturbed.proofs.UndisturbedLaws.{others_stand}
 use Rattle.rules.specs.Running.{run_of, us, master, stranger, ns, lasting, slave, message, wire_ns, two_step_sync_of}
-use Rattle.rules.proofs.IeeeExamples.{small}
-use Rattle.undisturbed.proofs.WovenExamples.{request_part, request_last, all_small, all_bytes, buffer, from_master, as_listed}
-
-abbrev besides : Event → Item Event
-besides e = placed (free other) e
-
--- the request 0, its stamp and its DelayResp
-abbrev answers : List (Item Event)
-answers =
-    request_part (stamp (ns 2000) (Context.DelayReq 0))
-    ∷ request_last (general (message master no_flag 0 0 (Body.DelayResp (wire_ns 1960) us)))
-    ∷ []
-
--- between them: a DelayReq of another port; on the general entry a Sync of our master, and a PDelayResp to us; a sync timer; the stamp of a Sync; a stamp of request 1, which was not made; the stamp of a PDelayReq 0, which is not configured
-abbrev run : List (Item Event)
-run =
-    request_part (delay_timer 0)
-    ∷ besides (event (ns 1100) (message stranger no_flag 0 0 (Body.DelayReq (wire_ns 0))))
-    ∷ besides (general (two_step_sync_of 7))
-    ∷ besides (general (message stranger no_flag 0 0 (Body.PDelayResp (wire_ns 0) us)))
-    ∷ besides sync_timer
-    ∷ besides (stamp (ns 1200) (Context.Sync 5))
-    ∷ besides (stamp (ns 1300) (Context.DelayReq 1))
-    ∷ besides (stamp (ns 1400) (Context.PDelayReq 0))
-    ∷ answers
+use Rattle.rules.specs.IeeeExamples.{small}
+use Rattle.undisturbed.specs.WovenExamples.{request_part, request_last, all_small, buffer}
+use Rattle.undisturbed.proofs.WovenExamples.{all_bytes, from_master, as_listed}
+use Rattle.undisturbed.specs.HarmlessExamples.{answers, run}
 
 pub measured : found measured_in (log_of happens (slave 10, buffer) run) ≡ Measurement.Delay (ns 2000) (lasting 30) MaybeDuration.None ∷ []
 unfolding run_of happens buffer_after log_of found

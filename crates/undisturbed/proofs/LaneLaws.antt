@@ -17,43 +17,18 @@ use Rattle.rules.specs.Formulas.{Says}
 use Rattle.undisturbed.specs.Runs.{Lane, new, again, in_full, short, a_part, the_last, Place, within, free, Item, placed}
 use Rattle.undisturbed.specs.Times.{Times, times_in, times_of, complete_of, comes_to}
 use Rattle.undisturbed.specs.Undisturbed.{Reply, TakenButForeign, measured_in}
-use Rattle.undisturbed.proofs.PlainLaws.{plain, plain_reply, PlainSays}
-use Rattle.undisturbed.proofs.SideLaws.{PartGoes, LastGoes, Goes}
-use Rattle.rules.proofs.AllLaws.{Comes, Anything, Silent, All, all_is}
+use Rattle.undisturbed.specs.PlainLaws.{plain, plain_reply, PlainSays}
+use Rattle.undisturbed.specs.SideLaws.{PartGoes, LastGoes, Goes}
+use Rattle.rules.specs.AllLaws.{Comes, Anything, Silent, All}
+use Rattle.rules.proofs.AllLaws.{all_is}
 use Rattle.rules.proofs.AgreeLaws.{agrees_all}
-use Rattle.rules.proofs.MeasureLaws.{Judged}
-use Rattle.rules.proofs.RefusalLaws.{NotTaken}
+use Rattle.rules.specs.MeasureLaws.{Judged}
+use Rattle.rules.specs.RefusalLaws.{NotTaken}
 use Rattle.rules.proofs.FitnessLaws.{fitness_kept}
 use Rattle.undisturbed.specs.StandingLaws.{Shared, gated, LetThrough, let_through}
-use Rattle.undisturbed.proofs.TimesLaws.{overlap, finished, times_snoc, Bag, HoldsAll, FillsAll, fills_hold}
-
--- what is known of an event of the given run
-abbrev pub Ok : Place → Event × Reply → Type 0
-Ok place a = TakenButForeign place a × BytesIn a.0
-
--- answered 0, with a measurement or without
-abbrev pub replied : MaybeMeasurement → Reply
-replied m = record { outcome = Outcome.Taken; measurement = m; packet = []; actions = []; reset = false }
-
--- ---- an exchange as its proof takes it: each event brings what is missing, and the last what is missing last
-
-pub record Brought (c : Config) (l : Lane) (es : List Event) (e : Event) (done : Bool) : Type 0 where
-  pub missing : overlap (times_of c es) (times_in c e) ≡ false
-  pub finishes : finished (comes_to c l (es ++ (e ∷ []))) ≡ done
-
-abbrev pub NoMore : {A : Type 0} → List A → Type 0
-NoMore [] = Unit {0}
-NoMore (a ∷ as') = ⊥
-
--- what is left of an exchange after the events es
-unfoldable pub Rest : Config → Lane → (Event → Type 0) → List Event → List (Item Event) → Type 0
-Rest c l Of es [] = ⊥
-Rest c l Of es (placed (within k (a_part new)) e ∷ more) =
-    Of e × Brought c l es e false × Rest c l Of (es ++ (e ∷ [])) more
-Rest c l Of es (placed (within k (a_part again)) e ∷ more) = ⊥
-Rest c l Of es (placed (within k (the_last in_full)) e ∷ more) = Of e × Brought c l es e true × NoMore more
-Rest c l Of es (placed (within k (the_last (short w))) e ∷ more) = ⊥
-Rest c l Of es (placed (free b) e ∷ more) = ⊥
+use Rattle.undisturbed.specs.TimesLaws.{overlap, finished, Bag, HoldsAll, FillsAll}
+use Rattle.undisturbed.proofs.TimesLaws.{times_snoc, fills_hold}
+use Rattle.undisturbed.specs.LaneLaws.{Ok, replied, Rest}
 
 module _ (c : Config) (master : Identity) (room : ℕ) (k : Lane) {L R I : Type 0} (put : L → R → Shared → Port) (FitL : I → L → Type 0) (FitR : R → Type 0) (next : I → I) where
   -- what an event does to the bag v: behind a test it works out a time, and stores what it brings

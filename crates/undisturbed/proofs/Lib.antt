@@ -12,7 +12,6 @@ pub mod PlainLaws
 pub mod ReadLaws
 pub mod RequestIdLaws
 pub mod RequestSideLaws
-pub mod SideLaws
 pub mod SyncSideLaws
 pub mod TimesLaws
 pub mod UndisturbedLaws

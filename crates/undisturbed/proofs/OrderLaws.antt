@@ -14,35 +14,10 @@ use Rattle.rules.specs.WorkedOut.{Completed}
 use Rattle.undisturbed.specs.Runs.{Lane, Item}
 use Rattle.undisturbed.specs.Times.{Times, times_in, times_of, earlier_of, and_then, if_given, sync_of, request_of, complete_of, comes_to}
 use Rattle.undisturbed.specs.Whole.{Piece, Picks, this_one, one_behind, InAnyOrder, firstly, lastly}
-use Rattle.undisturbed.proofs.TimesLaws.{both_given, overlap, finished, times_snoc}
-use Rattle.undisturbed.proofs.LaneLaws.{Brought, Rest}
-
--- ---- which times are there
-
-pub record Shape : Type 0 where
-  pub send : Bool
-  pub receive : Bool
-  pub request_receive : Bool
-  pub response_send : Bool
-
-abbrev pub is_given : Option ℤ → Bool
-is_given none = false
-is_given (some z) = true
-
-abbrev pub shape_of : Times → Shape
-shape_of t =
-    record { send = is_given t.send; receive = is_given t.receive; request_receive = is_given t.request_receive; response_send = is_given t.response_send }
-
-abbrev pub no_shape : Shape
-no_shape = record { send = false; receive = false; request_receive = false; response_send = false }
-
-abbrev or_shape : Shape → Shape → Shape
-or_shape a b =
-    record { send = a.send || b.send; receive = a.receive || b.receive; request_receive = a.request_receive || b.request_receive; response_send = a.response_send || b.response_send }
-
-abbrev meets : Shape → Shape → Bool
-meets a b =
-    a.send && b.send || a.receive && b.receive || a.request_receive && b.request_receive || a.response_send && b.response_send
+use Rattle.undisturbed.specs.TimesLaws.{both_given, overlap, finished}
+use Rattle.undisturbed.proofs.TimesLaws.{times_snoc}
+use Rattle.undisturbed.specs.LaneLaws.{Brought, Rest}
+use Rattle.undisturbed.specs.OrderLaws.{Shape, is_given, shape_of, or_shape, meets, two_there, four_there, every_pick, is_none, alike, OfAny}
 
 given_both : (a b : Option ℤ) → both_given a b ≡ (is_given a && is_given b)
 given_both none b = refl
@@ -60,13 +35,6 @@ given_or (some x) b = refl
 shape_then : (a b : Times) → shape_of (and_then a b) ≡ or_shape (shape_of a) (shape_of b)
 shape_then a b =
     λ i. record { send = given_or a.send b.send i; receive = given_or a.receive b.receive i; request_receive = given_or a.request_receive b.request_receive i; response_send = given_or a.response_send b.response_send i }
-
--- all that each kind of exchange wants
-abbrev pub two_there : Shape → Bool
-two_there s = s.send && s.receive
-
-abbrev pub four_there : Shape → Bool
-four_there s = s.send && (s.request_receive && (s.response_send && s.receive))
 
 finished_given : (a : Option ℤ) (k : ℤ → Completed) (b : Bool) → ((z : ℤ) → finished (k z) ≡ b) → finished (if_given a k) ≡ (is_given a && b)
 finished_given none k b f = refl
@@ -89,24 +57,9 @@ peer_finished t =
     finished_given t.response_send _ _ (λ z.
     finished_given t.receive _ true (λ u. refl) ∙ and-true (is_given t.receive))))
 
--- ---- every order of given pieces, tried one by one
-
--- whatever piece is picked
-abbrev every_pick : (Piece → List Piece → Bool) → List Piece → Bool
-every_pick f [] = true
-every_pick f (p ∷ ps) = f p ps && every_pick (λ q left. f q (p ∷ left)) ps
-
 picked : (f : Piece → List Piece → Bool) (p : Piece) (ps left : List Piece) → Picks p ps left → every_pick f ps ≡ true → f p left ≡ true
 picked f p ps left (this_one q qs) e = (both (f q qs) _ e).0
 picked f p ps left (one_behind q r qs more picks) e = picked (λ s left. f s (r ∷ left)) q qs more picks (both (f r qs) _ e).1
-
-abbrev is_none : List Piece → Bool
-is_none [] = true
-is_none (p ∷ ps) = false
-
-abbrev alike : Bool → Bool → Bool
-alike true b = b
-alike false b = not b
 
 are_alike : (a b : Bool) → alike a b ≡ true → a ≡ b
 are_alike true true e = refl
@@ -117,10 +70,6 @@ are_alike false false e = refl
 not_none : (p : Piece) (ps left : List Piece) → Picks p ps left → is_none ps ≡ false
 not_none p ps left (this_one q qs) = refl
 not_none p ps left (one_behind q r qs more picks) = refl
-
--- an event of an exchange, whatever piece it is
-abbrev pub OfAny : (Piece → Event → Type 0) → Event → Type 0
-OfAny Of e = (p : Piece) × Of p e
 
 module _ (c : Config) (l : Lane) (Of : Piece → Event → Type 0) (shape : Piece → Shape) (full : Shape → Bool) where
   -- of a piece that is picked: it brings only what is missing, and nothing is missing then exactly if none is left

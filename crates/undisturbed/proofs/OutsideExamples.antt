@@ -11,41 +11,13 @@ use Rattle.undisturbed.specs.Undisturbed.{happens, measured_in, Idle, NothingEls
 use Rattle.undisturbed.specs.Harmless.{Harmless}
 use Rattle.undisturbed.proofs.UndisturbedLaws.{others_stand}
 use Rattle.rules.specs.Running.{run_of, us, master, stranger, ns, lasting, set_up, slave, message, wire_ns}
-use Rattle.rules.proofs.IeeeExamples.{small}
-use Rattle.undisturbed.proofs.WovenExamples.{sync_part, sync_last, request_part, request_last, of_others, all_small, all_bytes, from_master, as_listed, buffer, sync7, follow_up7, follow_up8, sync8, sync9, strangers_p_delay_req}
-
-abbrev besides : Event → Item Event
-besides e = placed (free other) e
-
-abbrev measured_by : Port → List (Item Event) → List Measurement
-measured_by p run = found measured_in (log_of happens (p, buffer) run)
-
--- the number of the state that a run leaves: 0 Listening, 3 Faulty, 4 Slave
-abbrev leaves : Port → List (Item Event) → ℕ
-leaves p run = state_number (end_of happens (p, buffer) run).0.state
-
-abbrev NotWoven : Port → List (Item Event) → Type 0
-NotWoven p run = Woven (Harmless p.config) p (slave_of master) buffer run → ⊥
+use Rattle.rules.specs.IeeeExamples.{small}
+use Rattle.undisturbed.specs.WovenExamples.{sync_part, sync_last, request_part, request_last, of_others, all_small, buffer, sync7, follow_up7, follow_up8, sync8, sync9, strangers_p_delay_req}
+use Rattle.undisturbed.proofs.WovenExamples.{all_bytes, from_master, as_listed}
+use Rattle.undisturbed.specs.OutsideExamples.{measured_by, leaves, NotWoven, sync7_is, sync8_is, sync9_is, overlapping, one_after_another, slave_again, stamp_of, response_to, delay0_is, delay1_is, late_response, response_in_time, unanswered, unanswered_first, unanswered_last, peer_slave, measured0, peer0_is, peer1_is, late_answer, after_next, asked_within, first_byte, too_late}
 
 idle : (m : Mechanism) → Idle (with_slave (set_up m 10) (slave_of master)) (slave_of master)
 idle m = record { slave = refl; no_sync = refl; no_delay = refl; no_peer = refl }
-
-abbrev sync7_is : Measurement
-sync7_is = Measurement.Sync (ns 1000) (lasting 90) MaybeDuration.None
-
-abbrev sync8_is : Measurement
-sync8_is = Measurement.Sync (ns 2100) (lasting 190) MaybeDuration.None
-
-abbrev sync9_is : Measurement
-sync9_is = Measurement.Sync (ns 3000) (lasting 90) MaybeDuration.None
-
--- ---- two exchanges of one kind that overlap. A port has one sync exchange at a time: each message here replaces what the one before it opened, and none is measured. One after another both are. (A place does not say which of two exchanges of its kind an event is of, so they stand together by hand: `gather` moves nothing here.)
-
-abbrev overlapping : List (Item Event)
-overlapping = sync_part sync7 ∷ sync_part sync8 ∷ sync_last follow_up7 ∷ sync_last follow_up8 ∷ []
-
-abbrev one_after_another : List (Item Event)
-one_after_another = sync_part sync7 ∷ sync_last follow_up7 ∷ sync_part sync8 ∷ sync_last follow_up8 ∷ []
 
 pub overlapped : (measured_by (slave 10) overlapping ≡ []) × (measured_by (slave 10) one_after_another ≡ sync7_is ∷ sync8_is ∷ [])
 unfolding run_of happens buffer_after log_of found
@@ -59,11 +31,6 @@ pub overlapped_stays : gather overlapping ≡ overlapping
 unfolding gather_from
 overlapped_stays = refl
 
--- ---- the state set within an exchange, even to the same one: the Slave begins anew, with nothing open. Gathered, the exchange stands behind it
-
-abbrev slave_again : List (Item Event)
-slave_again = sync_part sync7 ∷ besides (set_state (NewState.Slave master)) ∷ sync_last follow_up7 ∷ []
-
 pub state_set : (measured_by (slave 10) slave_again ≡ []) × (measured_by (slave 10) (gather slave_again) ≡ sync7_is ∷ [])
 unfolding run_of happens buffer_after log_of found gather_from
 state_set = (refl, refl)
@@ -71,28 +38,6 @@ state_set = (refl, refl)
 pub state_set_not_woven : NotWoven (slave 10) slave_again
 unfolding run_of happens buffer_after log_of Each
 state_set_not_woven w = (others_stand (slave 10) (slave_of master) (idle Mechanism.EndToEnd) buffer slave_again w).once.1.1.0
-
--- ---- an answer that comes after the next request: that request has replaced the exchange, and the first one's DelayResp does nothing
-
-abbrev stamp_of : ℕ → ℕ → Event
-stamp_of id n = stamp (ns n) (Context.DelayReq id)
-
-abbrev response_to : ℕ → ℕ → Event
-response_to id n = general (message master no_flag 0 id (Body.DelayResp (wire_ns n) us))
-
-abbrev delay0_is : Measurement
-delay0_is = Measurement.Delay (ns 2000) (lasting 30) MaybeDuration.None
-
-abbrev delay1_is : Measurement
-delay1_is = Measurement.Delay (ns 3000) (lasting 40) MaybeDuration.None
-
-abbrev late_response : List (Item Event)
-late_response =
-    request_part (delay_timer 0) ∷ request_part (stamp_of 0 2000) ∷ request_part (delay_timer 1) ∷ request_last (response_to 0 1960) ∷ request_part (stamp_of 1 3000) ∷ request_last (response_to 1 2950) ∷ []
-
-abbrev response_in_time : List (Item Event)
-response_in_time =
-    request_part (delay_timer 0) ∷ request_part (stamp_of 0 2000) ∷ request_last (response_to 0 1960) ∷ request_part (delay_timer 1) ∷ request_part (stamp_of 1 3000) ∷ request_last (response_to 1 2950) ∷ []
 
 pub late_response_lem : (measured_by (slave 10) late_response ≡ delay1_is ∷ []) × (measured_by (slave 10) response_in_time ≡ delay0_is ∷ delay1_is ∷ [])
 unfolding run_of happens buffer_after log_of found
@@ -102,17 +47,6 @@ pub late_response_not_woven : NotWoven (slave 10) late_response
 unfolding run_of happens buffer_after log_of Each
 late_response_not_woven w = (others_stand (slave 10) (slave_of master) (idle Mechanism.EndToEnd) buffer late_response w).once.1.1.1.0
 
--- nor may a request stand by itself, unanswered, within an exchange: it replaces the exchange; and gathered, the exchange stands behind it and has the next id, so that its stamp and DelayResp are not those of its request any more. Before it, the exchange is measured
-abbrev unanswered : List (Item Event)
-unanswered =
-    request_part (delay_timer 0) ∷ request_part (stamp_of 0 2000) ∷ besides (delay_timer 1) ∷ request_last (response_to 0 1960) ∷ []
-
-abbrev unanswered_first : List (Item Event)
-unanswered_first = besides (delay_timer 1) ∷ request_part (delay_timer 0) ∷ request_part (stamp_of 0 2000) ∷ request_last (response_to 0 1960) ∷ []
-
-abbrev unanswered_last : List (Item Event)
-unanswered_last = request_part (delay_timer 0) ∷ request_part (stamp_of 0 2000) ∷ request_last (response_to 0 1960) ∷ besides (delay_timer 1) ∷ []
-
 pub unanswered_gathered : (gather unanswered ≡ unanswered_first) × (measured_by (slave 10) unanswered ≡ []) × (measured_by (slave 10) unanswered_first ≡ []) × (measured_by (slave 10) unanswered_last ≡ delay0_is ∷ [])
 unfolding run_of happens buffer_after log_of found gather_from
 unanswered_gathered = (refl, refl, refl, refl)
@@ -120,30 +54,6 @@ unanswered_gathered = (refl, refl, refl, refl)
 pub unanswered_not_woven : NotWoven (slave 10) unanswered
 unfolding run_of happens buffer_after log_of Each
 unanswered_not_woven w = (others_stand (slave 10) (slave_of master) (idle Mechanism.EndToEnd) buffer unanswered w).once.1.1.1.0
-
--- ---- peer-to-peer: an answer of a second responder, after the exchange is measured, makes the port Faulty, 3, and the Sync that follows is not heard
-
-abbrev peer_slave : Port
-peer_slave = with_slave (set_up Mechanism.Peer 10) (slave_of master)
-
-abbrev peer_stamp_of : ℕ → ℕ → Event
-peer_stamp_of id n = stamp (ns n) (Context.PDelayReq id)
-
--- one-step, so the delay is half of what lies between its coming and the stamp
-abbrev peer_answer : Identity → ℕ → ℕ → Event
-peer_answer source id n = event (ns n) (message source no_flag 0 id (Body.PDelayResp (wire_ns 6000) us))
-
-abbrev measured0 : List (Item Event) → List (Item Event)
-measured0 es = request_part (delay_timer 0) ∷ request_part (peer_stamp_of 0 1000) ∷ request_last (peer_answer master 0 1080) ∷ es
-
-abbrev peer0_is : Measurement
-peer0_is = Measurement.Peer (ns 1080) (lasting 40)
-
-abbrev peer1_is : Measurement
-peer1_is = Measurement.Peer (ns 2080) (lasting 40)
-
-abbrev late_answer : Item Event
-late_answer = besides (peer_answer stranger 0 1090)
 
 pub late_answer_lem : (leaves peer_slave (measured0 (late_answer ∷ [])) ≡ 3) × (measured_by peer_slave (measured0 (late_answer ∷ sync_last sync9 ∷ [])) ≡ peer0_is ∷ []) × (measured_by peer_slave (measured0 (sync_last sync9 ∷ [])) ≡ peer0_is ∷ sync9_is ∷ [])
 unfolding run_of happens buffer_after log_of end_of found
@@ -154,11 +64,6 @@ unfolding run_of happens buffer_after log_of Each
 late_answer_not_woven w =
     (others_stand peer_slave (slave_of master) (idle Mechanism.Peer) buffer (measured0 (late_answer ∷ sync_last sync9 ∷ [])) w).once.1.1.1.1.0
 
--- and where the next request came before it, it does nothing; but gathered that request stands behind it. So the two runs differ in the end: a Slave that measures its Sync, and a port that was Faulty and is Listening
-abbrev after_next : List (Item Event)
-after_next =
-    measured0 (request_part (delay_timer 1) ∷ late_answer ∷ request_part (peer_stamp_of 1 2000) ∷ request_last (peer_answer master 1 2080) ∷ sync_last sync9 ∷ [])
-
 pub late_answer_after_next : (measured_by peer_slave after_next ≡ peer0_is ∷ peer1_is ∷ sync9_is ∷ []) × (leaves peer_slave after_next ≡ 4) × (measured_by peer_slave (gather after_next) ≡ peer0_is ∷ peer1_is ∷ []) × (leaves peer_slave (gather after_next) ≡ 0)
 unfolding run_of happens buffer_after log_of end_of found gather_from
 late_answer_after_next = (refl, refl, refl, refl)
@@ -167,15 +72,6 @@ pub late_answer_after_next_not_woven : NotWoven peer_slave after_next
 unfolding run_of happens buffer_after log_of found gather_from
 late_answer_after_next_not_woven w =
     true≢false (ap (λ (ms : List Measurement). eqb (length ms) 2) (others_stand peer_slave (slave_of master) (idle Mechanism.Peer) buffer after_next w).order)
-
--- ---- what is left in the buffer: it is that of the packet written last, which the gathered run may write earlier. Here the answer to a PDelayReq, 0xA3 in its first byte, and the request, 0xA1. (Each event's own packet is the same in both.)
-
-abbrev asked_within : List (Item Event)
-asked_within =
-    request_part (delay_timer 0) ∷ of_others strangers_p_delay_req ∷ request_part (stamp_of 0 2000) ∷ request_last (response_to 0 1960) ∷ []
-
-abbrev first_byte : List (Item Event) → List ℕ
-first_byte run = take 1 (end_of happens (slave 10, buffer) run).1
 
 pub asked_within_lem : Woven NothingElse (slave 10) (slave_of master) buffer asked_within
 unfolding run_of happens buffer_after log_of lane joined Each SyncExchanges RequestExchanges AllStand small all_small
@@ -195,11 +91,6 @@ asked_within_lem =
 pub buffer_left : (first_byte asked_within ≡ 0xA3 ∷ []) × (first_byte (gather asked_within) ≡ 0xA1 ∷ [])
 unfolding run_of happens buffer_after end_of gather_from
 buffer_left = (refl, refl)
-
--- ---- foreign traffic that is answered 4, 5, 6 or 8, and not 3: one byte, with a time that is none
-
-abbrev too_late : Event
-too_late = event (record { hi = 2 ^ 63; lo = 0 }) (0xA0 ∷ [])
 
 is_message : Reading → Bool
 is_message (Reading.Message h b t) = true

@@ -11,7 +11,8 @@ use Rattle.time.specs.Units.{time, wire, correction, half_of}
 use Rattle.wire.specs.Layout.{two_step}
 use Rattle.sent.specs.Messages.{p_delay_req_of}
 use Rattle.fitness.specs.Fit.{there}
-use Rattle.fitness.proofs.FitLaws.{FitSync, FitPeer, fit_is}
+use Rattle.fitness.specs.FitLaws.{FitSync, FitPeer}
+use Rattle.fitness.proofs.FitLaws.{fit_is}
 use Rattle.record.specs.Ids.{id_after}
 use Rattle.record.specs.Record.{with_peer}
 use Rattle.rules.specs.Names.{Time, Duration, Identity, Header, Body, Reading, MaybeTime, MaybeIdentity, Exchange, PortState, PeerState, Mechanism, Config, Ids, Port, Outcome, Measurement, Context, Action}
@@ -27,30 +28,29 @@ use Rattle.undisturbed.specs.Runs.{requests, Item, joined}
 use Rattle.undisturbed.specs.Times.{Times, times_in, times_of, responded_at, response_times, request_of}
 use Rattle.undisturbed.specs.Whole.{Piece, the_sync, the_follow_up, the_stamp, the_delay_resp, the_p_delay_resp, the_p_delay_resp_follow_up, InAnyOrder, peer_pieces, FromResponder, OfPeer, a_peer_stamp, a_p_delay_resp, a_p_delay_resp_follow_up, PeerAnswers, asked, RequestAnswers, RequestExchanges}
 use Rattle.undisturbed.specs.Undisturbed.{is_open}
-use Rattle.rules.proofs.AllLaws.{Comes, Anything, Silent, all_map, all_less_correction, all_plus_correction, all_between, all_less}
+use Rattle.rules.specs.AllLaws.{Comes, Anything, Silent}
+use Rattle.rules.proofs.AllLaws.{all_map, all_less_correction, all_plus_correction, all_between, all_less}
 use Rattle.rules.proofs.MeasureLaws.{peer_judged}
 use Rattle.rules.proofs.SettleLaws.{settle_peer, peer_not_complete}
 use Rattle.rules.proofs.StoringLaws.{state_open}
-use Rattle.rules.proofs.RefusalLaws.{NotTaken, not_taken}
+use Rattle.rules.specs.RefusalLaws.{NotTaken}
+use Rattle.rules.proofs.RefusalLaws.{not_taken}
 use Rattle.rules.proofs.TakenLaws.{wire-time, brought_time}
 use Rattle.rules.proofs.RunLaws.{less_worth, plus_worth}
-use Rattle.rules.proofs.PeerRunLaws.{OnlyBy, answer_is}
-use Rattle.undisturbed.proofs.SideLaws.{Goes}
+use Rattle.rules.specs.PeerRunLaws.{OnlyBy}
+use Rattle.rules.proofs.PeerRunLaws.{answer_is}
+use Rattle.undisturbed.specs.SideLaws.{Goes}
 use Rattle.undisturbed.specs.StandingLaws.{Asking, Shared, slave_with, FitAsking, three_steps, three_steps_lem, three_come}
-use Rattle.undisturbed.proofs.TimesLaws.{overlap, finished, Bag, empty_bag, with_send, with_response_send, HoldsAll, FillsAll, lacks_receive, lacks_response_send, one_of_four_missing, FourThere, four_there_lem}
+use Rattle.undisturbed.specs.TimesLaws.{overlap, finished, Bag, empty_bag, with_send, with_response_send, HoldsAll, FillsAll, FourThere}
+use Rattle.undisturbed.proofs.TimesLaws.{lacks_receive, lacks_response_send, one_of_four_missing, four_there_lem}
 use Rattle.undisturbed.proofs.ReadLaws.{event_rule_is, brought_rule_is, event_times_lem, brought_times}
-use Rattle.undisturbed.proofs.LaneLaws.{Stores, Completes, Rest, rest_goes}
-use Rattle.undisturbed.proofs.OrderLaws.{Shape, shape_of, no_shape, four_there, peer_finished, every_order, OfAny, as_rest}
+use Rattle.undisturbed.specs.LaneLaws.{Rest}
+use Rattle.undisturbed.proofs.LaneLaws.{Stores, Completes, rest_goes}
+use Rattle.undisturbed.specs.OrderLaws.{Shape, shape_of, no_shape, four_there, OfAny}
+use Rattle.undisturbed.proofs.OrderLaws.{peer_finished, every_order, as_rest}
 use Rattle.undisturbed.proofs.RequestSideLaws.{asks, AskingExchange, AskingGoes, asking_gate, stamp_stores, request_part_lem, nothing_yet}
 use Rattle.undisturbed.proofs.DelaySideLaws.{none_open}
-
--- ---- the responder is known as soon as a time came from him
-
-abbrev heard_of : Bag → Bool
-heard_of v = there v.request_receive || there v.response_send || there v.receive
-
-abbrev known_by : Identity → Bag → MaybeIdentity
-known_by i v = cond (heard_of v) (MaybeIdentity.Some i) MaybeIdentity.None
+use Rattle.undisturbed.specs.PeerSideLaws.{heard_of, known_by}
 
 known_only : (source i : Identity) → i ≡ source → (b : Bool) → OnlyBy source (cond b (MaybeIdentity.Some i) MaybeIdentity.None)
 known_only source i e true = e

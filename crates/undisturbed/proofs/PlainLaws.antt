@@ -12,21 +12,7 @@ use Rattle.undisturbed.specs.Runs.{syncs, requests, a_part, the_last, within, fr
 use Rattle.undisturbed.specs.Times.{comes_to}
 use Rattle.undisturbed.specs.Undisturbed.{Reply, reply_with, happens, FormulaSays}
 use Rattle.rules.proofs.BufferLaws.{buffer_length}
-
--- ---- a run of which only the buffer's room is known
-
--- what an event is answered, its packet taken straight from what is sent
-abbrev pub plain_reply : Result → Reply
-plain_reply r =
-    record { outcome = r.outcome; measurement = r.measurement; packet = r.sent; actions = r.actions; reset = r.reset }
-
-abbrev pub plain : ℕ → Port → Event → Port × Reply
-plain room p e =
-    let r : Result = step p room e in
-    (r.port, plain_reply r)
-
-abbrev pub PlainSays : Port → Completed → Reply → Port → Type 0
-PlainSays p c a q = Says p c a.measurement q
+use Rattle.undisturbed.specs.PlainLaws.{plain_reply, plain, PlainSays}
 
 -- the packet stands at the buffer's front
 reply_plain : (r : Result) (l : List ℕ) → reply_with r (buffer_after r l) ≡ plain_reply r

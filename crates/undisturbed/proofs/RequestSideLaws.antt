@@ -6,7 +6,7 @@ use Rattle.timers.specs.Timers.{delay_timer_of}
 use Rattle.time.specs.Units.{time}
 use Rattle.record.specs.Ids.{id_after}
 use Rattle.fitness.specs.Fit.{config_out, unfit}
-use Rattle.fitness.proofs.FitLaws.{FitSync}
+use Rattle.fitness.specs.FitLaws.{FitSync}
 use Rattle.rules.specs.Names.{TimerAnswer, Time, Identity, MaybeTime, Exchange, Config, Port, Outcome, Message, Action, MaybeMeasurement}
 use Rattle.rules.specs.Worked.{Worked, worked, ◌then◌, a_timer}
 use Rattle.rules.specs.Events.{Event, delay_timer, Done, Result, answered, sending, packet}
@@ -16,14 +16,17 @@ use Rattle.rules.specs.Step.{rule_of, step}
 use Rattle.undisturbed.specs.Runs.{requests, new, a_part, within, Item}
 use Rattle.undisturbed.specs.Times.{Times, sent_at, times_in, times_of, comes_to}
 use Rattle.undisturbed.specs.Undisturbed.{Reply, measured_in}
-use Rattle.undisturbed.proofs.PlainLaws.{plain, plain_reply, PlainSays}
-use Rattle.undisturbed.proofs.SideLaws.{PartGoes}
-use Rattle.rules.proofs.AllLaws.{Comes, Anything}
-use Rattle.rules.proofs.RefusalLaws.{NotTaken, not_taken}
+use Rattle.undisturbed.specs.PlainLaws.{plain, plain_reply, PlainSays}
+use Rattle.undisturbed.specs.SideLaws.{PartGoes}
+use Rattle.rules.specs.AllLaws.{Comes, Anything}
+use Rattle.rules.specs.RefusalLaws.{NotTaken}
+use Rattle.rules.proofs.RefusalLaws.{not_taken}
 use Rattle.rules.proofs.FitnessLaws.{fitness_kept}
 use Rattle.undisturbed.specs.StandingLaws.{Asking, Shared, stands, FitAsking, gated, step-stands, LetThrough, let_through}
-use Rattle.undisturbed.proofs.TimesLaws.{overlap, Bag, empty_bag, none_held, with_send, HoldsAll, FillsAll, lacks_send}
-use Rattle.undisturbed.proofs.LaneLaws.{Ok, Stores, Exchanging, SideGoes}
+use Rattle.undisturbed.specs.TimesLaws.{overlap, Bag, empty_bag, with_send, HoldsAll, FillsAll}
+use Rattle.undisturbed.proofs.TimesLaws.{none_held, lacks_send}
+use Rattle.undisturbed.specs.LaneLaws.{Ok}
+use Rattle.undisturbed.proofs.LaneLaws.{Stores, Exchanging, SideGoes}
 
 module _ (c : Config) (master : Identity) (room : ℕ) where
   -- this side, with the sync exchange beside it

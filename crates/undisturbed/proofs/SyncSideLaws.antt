@@ -9,7 +9,8 @@ use Rattle.time.specs.declared.WireTimestamp.{WireTimestamp}
 use Rattle.time.specs.Units.{time, wire, correction}
 use Rattle.wire.specs.Layout.{two_step}
 use Rattle.fitness.specs.Fit.{full}
-use Rattle.fitness.proofs.FitLaws.{FitSync, fit_is}
+use Rattle.fitness.specs.FitLaws.{FitSync}
+use Rattle.fitness.proofs.FitLaws.{fit_is}
 use Rattle.record.proofs.SameLaws.{same_identity_lem}
 use Rattle.rules.specs.Names.{Time, Duration, Identity, Header, Body, Reading, MaybeTime, MaybeDuration, Exchange, Config, Port, Outcome, Measurement}
 use Rattle.rules.specs.Worked.{Worked, worked, refused, ◌then◌, less_correction, plus_correction, elapsed, less_duration}
@@ -23,29 +24,25 @@ use Rattle.rules.specs.WorkedOut.{Completed}
 use Rattle.undisturbed.specs.Runs.{syncs, Item, joined}
 use Rattle.undisturbed.specs.Times.{Times, times_in, times_of, sent_at, sync_times, sync_of}
 use Rattle.undisturbed.specs.Whole.{Piece, the_sync, the_follow_up, the_stamp, the_delay_resp, the_p_delay_resp, the_p_delay_resp_follow_up, InAnyOrder, sync_pieces, OfSync, a_sync, a_follow_up, FromMaster, SyncExchanges}
-use Rattle.rules.proofs.AllLaws.{Comes, Anything, Silent, All, all_map, all_then, all_less_correction, all_plus_correction, all_between, all_less}
+use Rattle.rules.specs.AllLaws.{Comes, Anything, Silent, All}
+use Rattle.rules.proofs.AllLaws.{all_map, all_then, all_less_correction, all_plus_correction, all_between, all_less}
 use Rattle.rules.proofs.MeasureLaws.{sync_judged}
 use Rattle.rules.proofs.SettleLaws.{settle_sync, not_both}
 use Rattle.rules.proofs.StoringLaws.{delay_open}
-use Rattle.rules.proofs.RefusalLaws.{NotTaken, not_taken}
+use Rattle.rules.specs.RefusalLaws.{NotTaken}
+use Rattle.rules.proofs.RefusalLaws.{not_taken}
 use Rattle.rules.proofs.TakenLaws.{wire-time, brought_time}
 use Rattle.rules.proofs.RunLaws.{less_worth, plus_worth}
-use Rattle.undisturbed.proofs.SideLaws.{Goes}
+use Rattle.undisturbed.specs.SideLaws.{Goes}
 use Rattle.undisturbed.specs.StandingLaws.{Asking, Shared, slave_with, stands, FitAsking, gated, step-stands, three_steps, three_steps_lem, three_come}
-use Rattle.undisturbed.proofs.TimesLaws.{overlap, finished, Bag, empty_bag, none_held, with_send, with_receive, HoldsAll, FillsAll, lacks_send, lacks_receive, one_missing, BothThere, both_there}
+use Rattle.undisturbed.specs.TimesLaws.{overlap, finished, Bag, empty_bag, with_send, with_receive, HoldsAll, FillsAll}
+use Rattle.undisturbed.proofs.TimesLaws.{none_held, lacks_send, lacks_receive, one_missing, BothThere, both_there}
 use Rattle.undisturbed.proofs.ReadLaws.{event_rule_is, brought_rule_is, event_times_lem, brought_times}
-use Rattle.undisturbed.proofs.LaneLaws.{Stores, Completes, Exchanging, Rest, SideGoes, rest_goes}
-use Rattle.undisturbed.proofs.OrderLaws.{Shape, shape_of, no_shape, two_there, sync_finished, every_order, OfAny, as_rest}
-
--- ---- an exchange by its times; without any it is none
-
-abbrev pub sync_with : ℕ → MaybeTime → MaybeTime → Exchange
-sync_with id MaybeTime.None MaybeTime.None = Exchange.Empty
-sync_with id MaybeTime.None (MaybeTime.Some r) = Exchange.Measuring id MaybeTime.None (MaybeTime.Some r)
-sync_with id (MaybeTime.Some s) r = Exchange.Measuring id (MaybeTime.Some s) r
-
-abbrev pub holding_sync : ℕ → Bag → Exchange
-holding_sync id v = sync_with id v.send v.receive
+use Rattle.undisturbed.specs.LaneLaws.{Rest}
+use Rattle.undisturbed.proofs.LaneLaws.{Stores, Completes, Exchanging, SideGoes, rest_goes}
+use Rattle.undisturbed.specs.OrderLaws.{Shape, shape_of, no_shape, two_there, OfAny}
+use Rattle.undisturbed.proofs.OrderLaws.{sync_finished, every_order, as_rest}
+use Rattle.undisturbed.specs.SyncSideLaws.{sync_with, holding_sync}
 
 two_step_fills : (id : ℕ) (s : MaybeTime) (t : Time) → two_step_sync id t (sync_with id s MaybeTime.None) ≡ becomes (sync_with id s (MaybeTime.Some t))
 unfolding two_step_sync

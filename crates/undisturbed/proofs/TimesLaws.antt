@@ -10,23 +10,7 @@ use Rattle.rules.specs.Names.{Time, MaybeTime, Mechanism, Config}
 use Rattle.rules.specs.Events.{Event}
 use Rattle.rules.specs.WorkedOut.{Completed, unfinished, sync, delay, peer}
 use Rattle.undisturbed.specs.Times.{Times, no_times, times_in, times_of, earlier_of, and_then, if_given, request_of}
-
--- ---- none of the times of one is one of the other's; all that an exchange wants is there
-
-abbrev pub both_given : Option ℤ → Option ℤ → Bool
-both_given none b = false
-both_given (some a) none = false
-both_given (some a) (some b) = true
-
-abbrev pub overlap : Times → Times → Bool
-overlap a b =
-    both_given a.send b.send || both_given a.receive b.receive || both_given a.request_receive b.request_receive || both_given a.response_send b.response_send
-
-abbrev pub finished : Completed → Bool
-finished unfinished = false
-finished (sync send receive) = true
-finished (delay send receive) = true
-finished (peer a b d e) = true
+use Rattle.undisturbed.specs.TimesLaws.{both_given, overlap, finished, Bag, empty_bag, Holds, HoldsAll, Fills, FillsAll, NoneTwice, four, IsHeld, FourThere}
 
 -- ---- one event more
 
@@ -57,66 +41,14 @@ times_snoc c [] e = then_none (times_in c e)
 times_snoc c (f ∷ es) e =
     ap (and_then (times_in c f)) (times_snoc c es e) ∙ sym (then_assoc (times_in c f) (times_of c es) (times_in c e))
 
--- ---- times that are held
-
-pub record Bag : Type 0 where
-  pub send : MaybeTime
-  pub receive : MaybeTime
-  pub request_receive : MaybeTime
-  pub response_send : MaybeTime
-
-abbrev pub empty_bag : Bag
-empty_bag = record { send = MaybeTime.None; receive = MaybeTime.None; request_receive = MaybeTime.None; response_send = MaybeTime.None }
-
--- with one more
-abbrev pub with_send : Bag → Time → Bag
-with_send v t = record { send = MaybeTime.Some t; receive = v.receive; request_receive = v.request_receive; response_send = v.response_send }
-
-abbrev pub with_receive : Bag → Time → Bag
-with_receive v t = record { send = v.send; receive = MaybeTime.Some t; request_receive = v.request_receive; response_send = v.response_send }
-
-abbrev pub with_response_send : Bag → Time → Bag
-with_response_send v t = record { send = v.send; receive = v.receive; request_receive = v.request_receive; response_send = MaybeTime.Some t }
-
-abbrev pub Holds : Option ℤ → MaybeTime → Type 0
-Holds none MaybeTime.None = Unit {0}
-Holds none (MaybeTime.Some t) = ⊥
-Holds (some z) MaybeTime.None = ⊥
-Holds (some z) (MaybeTime.Some t) = time t ≡ z
-
-pub record HoldsAll (a : Times) (v : Bag) : Type 0 where
-  pub send : Holds a.send v.send
-  pub receive : Holds a.receive v.receive
-  pub request_receive : Holds a.request_receive v.request_receive
-  pub response_send : Holds a.response_send v.response_send
-
 pub none_held : HoldsAll no_times empty_bag
 none_held = record { send = tt; receive = tt; request_receive = tt; response_send = tt }
-
--- ---- what an event stores: where it brings nothing, the time that was held; else a time worth what it brings
-
-abbrev pub Fills : Option ℤ → MaybeTime → MaybeTime → Type 0
-Fills none m n = n ≡ m
-Fills (some z) m n = Holds (some z) n
-
-pub record FillsAll (b : Times) (v w : Bag) : Type 0 where
-  pub send : Fills b.send v.send w.send
-  pub receive : Fills b.receive v.receive w.receive
-  pub request_receive : Fills b.request_receive v.request_receive w.request_receive
-  pub response_send : Fills b.response_send v.response_send w.response_send
 
 filled_holds : (a b : Option ℤ) (m n : MaybeTime) → Holds a m → both_given a b ≡ false → Fills b m n → Holds (earlier_of a b) n
 filled_holds none none m n h o f = subst (Holds none) (sym f) h
 filled_holds (some z) none m n h o f = subst (Holds (some z)) (sym f) h
 filled_holds none (some y) m n h o f = f
 filled_holds (some z) (some y) m n h o f = absurd (apart cc)
-
--- none of the four is there twice
-record NoneTwice (a b : Times) : Type 0 where
-  send : both_given a.send b.send ≡ false
-  receive : both_given a.receive b.receive ≡ false
-  request_receive : both_given a.request_receive b.request_receive ≡ false
-  response_send : both_given a.response_send b.response_send ≡ false
 
 none_twice : (a b : Times) → overlap a b ≡ false → NoneTwice a b
 none_twice a b o =
@@ -185,11 +117,6 @@ module _ (made : ℤ → ℤ → Completed) (finishes : (x y : ℤ) → finished
   both_there (some x) (some y) (MaybeTime.Some t) (MaybeTime.Some u) h j e =
       record { first = t; second = u; first_is = refl; second_is = refl; worth = λ i. made (sym h i) (sym j i) }
 
--- ---- the four times of a peer exchange
-
-abbrev four : Option ℤ → Option ℤ → Option ℤ → Option ℤ → Completed
-four a b d e = if_given a (λ x. if_given b (λ y. if_given d (λ z. if_given e (λ u. Completed.peer x y z u))))
-
 -- while one is missing, not all are there
 missing_here : (a : Option ℤ) (m : MaybeTime) (k : ℤ → Completed) (others : Bool) → Holds a m → finished (if_given a k) ≡ false → ((z : ℤ) → finished (k z) ≡ false → others ≡ false) → there m && others ≡ false
 missing_here none MaybeTime.None k others h f g = refl
@@ -209,27 +136,10 @@ one_of_four_missing a v h f =
     missing_here a.response_send v.response_send _ _ h.response_send fy (λ z fz.
     sym (and-true (there v.receive)) ∙ missing_here a.receive v.receive _ true h.receive fz (λ u fu. not_finished x y z u fu))))
 
--- a time that is given is held
-record IsHeld (a : Option ℤ) (m : MaybeTime) : Type 0 where
-  value : Time
-  held_is : m ≡ MaybeTime.Some value
-  given_is : a ≡ some (time value)
-
 is_held : (a : Option ℤ) (m : MaybeTime) (k : ℤ → Completed) → Holds a m → finished (if_given a k) ≡ true → IsHeld a m
 is_held none m k h f = absurd (true≢false (sym f))
 is_held (some x) MaybeTime.None k h f = absurd h
 is_held (some x) (MaybeTime.Some t) k h f = record { value = t; held_is = refl; given_is = ap some (sym h) }
-
-pub record FourThere (a : Times) (v : Bag) : Type 0 where
-  pub t1 : Time
-  pub t2 : Time
-  pub t3 : Time
-  pub t4 : Time
-  pub t1_is : v.send ≡ MaybeTime.Some t1
-  pub t2_is : v.request_receive ≡ MaybeTime.Some t2
-  pub t3_is : v.response_send ≡ MaybeTime.Some t3
-  pub t4_is : v.receive ≡ MaybeTime.Some t4
-  pub worth : request_of Mechanism.Peer a ≡ Completed.peer (time t1) (time t2) (time t3) (time t4)
 
 pub four_there_lem : (a : Times) (v : Bag) → HoldsAll a v → finished (request_of Mechanism.Peer a) ≡ true → FourThere a v
 four_there_lem a v h f =

@@ -3,7 +3,7 @@ use Rattle.std.specs.Prelude.{ℕ, ◌≡◌, refl, false, length}
 use Rattle.std.proofs.Common.{sym, ap, ◌∙◌, subst, true≢false}
 use mathlib.Core.List.{List, [], ◌∷◌}
 use Rattle.record.specs.Ids.{id_after}
-use Rattle.fitness.proofs.FitLaws.{FitSync, FitPeer}
+use Rattle.fitness.specs.FitLaws.{FitSync, FitPeer}
 use Rattle.rules.specs.Names.{Identity, Exchange, SlaveState, PortState, PeerState, Mechanism, Config, Ids, Port, MaybeMeasurement}
 use Rattle.rules.specs.Events.{Event}
 use Rattle.rules.specs.WorkedOut.{unfinished}
@@ -14,12 +14,13 @@ use Rattle.undisturbed.specs.Times.{comes_to}
 use Rattle.undisturbed.specs.Whole.{RequestExchanges}
 use Rattle.undisturbed.specs.Undisturbed.{Reply, happens, listed, measured_in, is_open, Idle, first_request, NothingElse, AllStand, TakenButForeign, Woven, Undisturbed}
 use Rattle.undisturbed.specs.Harmless.{Harmless}
-use Rattle.undisturbed.proofs.SideLaws.{Frees}
-use Rattle.undisturbed.proofs.PlainLaws.{plain, PlainSays, log_plain, end_plain, told_plain}
+use Rattle.undisturbed.specs.SideLaws.{Frees}
+use Rattle.undisturbed.specs.PlainLaws.{plain, PlainSays}
+use Rattle.undisturbed.proofs.PlainLaws.{log_plain, end_plain, told_plain}
 use Rattle.undisturbed.proofs.FrameLaws.{SyncGoes, Gathers, gathers}
 use Rattle.undisturbed.proofs.GatherLaws.{each_gathered, order_gathered}
 use Rattle.undisturbed.specs.StandingLaws.{Asking, Shared, stands, FitAsking}
-use Rattle.undisturbed.proofs.LaneLaws.{Ok}
+use Rattle.undisturbed.specs.LaneLaws.{Ok}
 use Rattle.undisturbed.proofs.RequestSideLaws.{AskingGoes}
 use Rattle.undisturbed.proofs.SyncSideLaws.{sync_goes}
 use Rattle.undisturbed.proofs.DelaySideLaws.{none_open, delay_goes}

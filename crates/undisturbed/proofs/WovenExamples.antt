@@ -19,42 +19,10 @@ use Rattle.undisturbed.specs.Whole.{Piece, the_sync, this_one, one_behind, InAny
 use Rattle.undisturbed.specs.Undisturbed.{Reply, happens, measured_in, NothingElse, AllStand, Woven, Undisturbed}
 use Rattle.undisturbed.proofs.UndisturbedLaws.{undisturbed}
 use Rattle.rules.specs.Running.{run_of, us, master, stranger, ns, lasting, set_up, slave, message, wire_ns, two_step_sync_of, one_step_sync_of, follow_up_at}
-use Rattle.rules.proofs.Examples.{last_ids}
-use Rattle.rules.proofs.IeeeExamples.{small, small_bytes}
-
--- ---- words for runs: an event at its place
-
-abbrev pub sync_part : Event → Item Event
-sync_part e = placed (within syncs (a_part new)) e
-
-abbrev pub sync_last : Event → Item Event
-sync_last e = placed (within syncs (the_last in_full)) e
-
-abbrev pub request_part : Event → Item Event
-request_part e = placed (within requests (a_part new)) e
-
-abbrev pub request_last : Event → Item Event
-request_last e = placed (within requests (the_last in_full)) e
-
-abbrev pub of_filter : Event → Item Event
-of_filter e = placed (free from_filter) e
-
-abbrev pub of_others : Event → Item Event
-of_others e = placed (free foreign) e
-
--- messages are lists of bytes: a test of a whole run
-abbrev pub small_in : Event → Bool
-small_in (event t m) = small m
-small_in (general m) = small m
-small_in (stamp t context) = true
-small_in sync_timer = true
-small_in (delay_timer draw) = true
-small_in (filter_answer update) = true
-small_in (set_state state) = true
-
-unfoldable pub all_small : List (Item Event) → Bool
-all_small [] = true
-all_small (placed place e ∷ es) = small_in e && all_small es
+use Rattle.rules.specs.Examples.{last_ids}
+use Rattle.rules.specs.IeeeExamples.{small}
+use Rattle.rules.proofs.IeeeExamples.{small_bytes}
+use Rattle.undisturbed.specs.WovenExamples.{sync_part, sync_last, request_part, request_last, of_filter, of_others, small_in, all_small, outcome_in, sent_in, p, buffer, sync7, follow_up7, follow_up8, sync8, sync9, request65535, response65535, stamp65535, request0, stamp0, response0, mean_of30, one_byte, other_domain, announce, strangers_p_delay_req, p_delay_resp_stamp, strangers_sync, delay_resp_for_stranger, run, p_delay_resp, exchange7, exchange8, exchange9, answers65535, answers0}
 
 pub all_bytes : (run : List (Item Event)) → all_small run ≡ true → Each (λ place e. BytesIn e) run
 unfolding all_small Each
@@ -69,120 +37,6 @@ all_bytes (placed place e ∷ es) h = (one e (both (small_in e) (all_small es) h
     one (delay_timer draw) h = tt
     one (filter_answer update) h = tt
     one (set_state state) h = tt
-
--- what is told of each answer: its number, and its packet if something is sent
-abbrev pub outcome_in : Reply → List Outcome
-outcome_in a = a.outcome ∷ []
-
-abbrev pub or_none : List ℕ → List (List ℕ)
-or_none [] = []
-or_none (x ∷ xs) = (x ∷ xs) ∷ []
-
-abbrev pub sent_in : Reply → List (List ℕ)
-sent_in a = or_none a.packet
-
--- ---- the port: a Slave with an asymmetry of 10 ns and no mean delay, whose next ids are 65535; and its buffer
-
-abbrev p : Port
-p = last_ids (slave 10)
-
-abbrev pub buffer : List ℕ
-buffer = replicate 64 0xEE
-
--- ---- what happens to it
-
--- three sync exchanges: 7 is two-step; 8 two-step with its FollowUp first, which has a correction of 5 ns; 9 one-step
-abbrev pub sync7 : Event
-sync7 = event (ns 1000) (two_step_sync_of 7)
-
-abbrev pub follow_up7 : Event
-follow_up7 = general (follow_up_at 7 900)
-
-abbrev pub follow_up8 : Event
-follow_up8 = general (message master no_flag (5 * 2 ^ 16) 8 (Body.FollowUp (wire_ns 1895)))
-
-abbrev pub sync8 : Event
-sync8 = event (ns 2100) (two_step_sync_of 8)
-
-abbrev pub sync9 : Event
-sync9 = event (ns 3000) (one_step_sync_of 9 2900)
-
--- two requests: of the first, 65535, the DelayResp comes before the stamp; of the second, 0, behind it
-abbrev delay_resp_to : Identity → ℕ → ℕ → Event
-delay_resp_to requester id n = general (message master no_flag 0 id (Body.DelayResp (wire_ns n) requester))
-
-abbrev request65535 : Event
-request65535 = delay_timer 0
-
-abbrev response65535 : Event
-response65535 = delay_resp_to us 65535 1960
-
-abbrev stamp65535 : Event
-stamp65535 = stamp (ns 2000) (Context.DelayReq 65535)
-
-abbrev request0 : Event
-request0 = delay_timer 1
-
-abbrev stamp0 : Event
-stamp0 = stamp (ns 2500) (Context.DelayReq 0)
-
-abbrev response0 : Event
-response0 = delay_resp_to us 0 2450
-
--- the filter gives a mean delay of 30 ns
-abbrev pub mean_of30 : Event
-mean_of30 =
-    filter_answer (record { mean_delay = MaybeDuration.Some (lasting 30); next_update = MaybeNanoseconds.None })
-
--- foreign traffic that is refused: one byte is answered 4; a Sync 8 of the master, but in another domain, 6; an Announce, 8
-abbrev pub one_byte : Event
-one_byte = general (0xA0 ∷ [])
-
-abbrev pub other_domain : Event
-other_domain =
-    event (ns 1050) (message_bytes (header_for (record { sdo = 0xA22; domain = 0x20; minor = 0x1; identity = master }) M.Sync two_step_flag 0 8 no_interval) (Body.Sync (wire_ns 0)))
-
-abbrev pub announce : Event
-announce =
-    general (bytes_of (header_entries (record { major_sdo = 0xA; kind = 11; minor = 0x1; version = 2; length = 34; domain = 0x21; minor_sdo = 0x22; flags = 0; correction = 0; source = master; id = 0; interval = 0 }) 5))
-
--- and that is taken: a PDelayReq, which is answered, and the stamp of the answer, which sends its follow-up; a stranger's Sync, with an id that is open; a DelayResp for a stranger, with the id of our request
-abbrev pub strangers_p_delay_req : Event
-strangers_p_delay_req = event (ns 1100) (message stranger no_flag 0 40 (Body.PDelayReq (wire_ns 0)))
-
-abbrev pub p_delay_resp_stamp : Event
-p_delay_resp_stamp = stamp (ns 1200) (Context.PDelayResp 40 stranger)
-
-abbrev pub strangers_sync : Event
-strangers_sync = event (ns 1300) (message stranger two_step_flag 0 8 (Body.Sync (wire_ns 0)))
-
-abbrev pub delay_resp_for_stranger : Event
-delay_resp_for_stranger = delay_resp_to stranger 0 2400
-
--- ---- the run: sync exchange 7 stands within the first request exchange, 8 begins within it and ends within the second, 9 stands within the second
-
-abbrev run : List (Item Event)
-run =
-    request_part request65535
-    ∷ sync_part sync7
-    ∷ of_others one_byte
-    ∷ request_part response65535
-    ∷ of_others strangers_p_delay_req
-    ∷ sync_last follow_up7
-    ∷ of_others p_delay_resp_stamp
-    ∷ sync_part follow_up8
-    ∷ of_filter mean_of30
-    ∷ of_others strangers_sync
-    ∷ request_last stamp65535
-    ∷ of_others other_domain
-    ∷ request_part request0
-    ∷ of_others delay_resp_for_stranger
-    ∷ sync_last sync8
-    ∷ of_others announce
-    ∷ request_part stamp0
-    ∷ sync_last sync9
-    ∷ request_last response0
-    ∷ []
 
 -- gathered: each exchange stands together where its last event stood, and nothing else has moved
 pub gathered : gather run ≡ of_others one_byte ∷ of_others strangers_p_delay_req ∷ sync_part sync7 ∷ sync_last follow_up7 ∷ of_others p_delay_resp_stamp ∷ of_filter mean_of30 ∷ of_others strangers_sync ∷ request_part request65535 ∷ request_part response65535 ∷ request_last stamp65535 ∷ of_others other_domain ∷ of_others delay_resp_for_stranger ∷ sync_part follow_up8 ∷ sync_last sync8 ∷ of_others announce ∷ sync_last sync9 ∷ request_part request0 ∷ request_part stamp0 ∷ request_last response0 ∷ []
@@ -199,10 +53,6 @@ measured = refl
 pub numbers : found outcome_in (log_of happens (p, buffer) run) ≡ Outcome.Taken ∷ Outcome.Taken ∷ Outcome.Version ∷ Outcome.Taken ∷ Outcome.Taken ∷ Outcome.Taken ∷ Outcome.Taken ∷ Outcome.Taken ∷ Outcome.Taken ∷ Outcome.Taken ∷ Outcome.Taken ∷ Outcome.Foreign ∷ Outcome.Taken ∷ Outcome.Taken ∷ Outcome.Taken ∷ Outcome.Host ∷ Outcome.Taken ∷ Outcome.Taken ∷ Outcome.Taken ∷ []
 unfolding run_of happens buffer_after log_of found
 numbers = refl
-
--- what is sent, in order: the first request, with the last id; the answer to the PDelayReq, of 54 bytes, and its follow-up; the second request, with the first id
-abbrev p_delay_resp : List ℕ
-p_delay_resp = message us two_step_flag 0 40 (Body.PDelayResp (wire_ns 1100) stranger)
 
 pub sent : (found sent_in (log_of happens (p, buffer) run) ≡ message us no_flag 0 65535 (Body.DelayReq (wire_ns 0)) ∷ p_delay_resp ∷ message us no_flag 0 40 (Body.PDelayRespFollowUp (wire_ns 1200) stranger) ∷ message us no_flag 0 0 (Body.DelayReq (wire_ns 0)) ∷ []) × (length p_delay_resp ≡ 54)
 unfolding run_of happens buffer_after log_of found
@@ -227,15 +77,6 @@ not_master e = true≢false (ap (λ (i : Identity). eqb i.port 0x595A) (sym e))
 pub not_us : Not (stranger ≡ us)
 not_us e = true≢false (ap (λ (i : Identity). eqb i.port 0x3839) (sym e))
 
-abbrev pub exchange7 : List (Item Event)
-exchange7 = sync_part sync7 ∷ sync_last follow_up7 ∷ []
-
-abbrev pub exchange8 : List (Item Event)
-exchange8 = sync_part follow_up8 ∷ sync_last sync8 ∷ []
-
-abbrev pub exchange9 : List (Item Event)
-exchange9 = sync_last sync9 ∷ []
-
 -- the sync exchanges, whatever the mechanism is
 module _ (m : Mechanism) where
   whole7 : SyncExchange (set_up m 10).config master exchange7
@@ -255,13 +96,6 @@ module _ (m : Mechanism) where
   pub syncs_whole : SyncExchanges (set_up m 10).config master (exchange7 ∷ exchange8 ∷ exchange9 ∷ [])
   unfolding SyncExchanges
   syncs_whole = (whole7, (whole8, (whole9, tt)))
-
--- the request exchanges, with their answers
-abbrev answers65535 : List (Item Event)
-answers65535 = request_part response65535 ∷ request_last stamp65535 ∷ []
-
-abbrev answers0 : List (Item Event)
-answers0 = request_part stamp0 ∷ request_last response0 ∷ []
 
 whole65535 : RequestExchange p.config master 65535 (request_part request65535 ∷ answers65535)
 unfolding run_of

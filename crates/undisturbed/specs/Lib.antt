@@ -4,4 +4,17 @@ pub mod Times
 pub mod Whole
 pub mod Undisturbed
 pub mod Harmless
+pub mod SideLaws
+pub mod FrameLaws
+pub mod PlainLaws
 pub mod StandingLaws
+pub mod TimesLaws
+pub mod LaneLaws
+pub mod OrderLaws
+pub mod SyncSideLaws
+pub mod PeerSideLaws
+pub mod BesideLaws
+pub mod WovenExamples
+pub mod WovenPeerExamples
+pub mod HarmlessExamples
+pub mod OutsideExamples

@@ -4,16 +4,18 @@ use Rattle.std.proofs.Common.{sym, ◌∙◌}
 use Rattle.std.proofs.Math.Path.{ap}
 use Rattle.octets.proofs.BytesLaws.{apart}
 use Rattle.fitness.specs.Fit.{config_out, unfit}
-use Rattle.fitness.proofs.FitLaws.{FitSync, FitDelay, FitPeer, fit_is, fit_when}
+use Rattle.fitness.specs.FitLaws.{FitSync, FitDelay, FitPeer}
+use Rattle.fitness.proofs.FitLaws.{fit_is, fit_when}
 use Rattle.rules.specs.Names.{Identity, MaybeDuration, Exchange, SlaveState, PortState, PeerState, Mechanism, Config, Ids, Port, Outcome}
 use Rattle.rules.specs.Worked.{Worked, worked, refused, ◌then◌}
 use Rattle.rules.specs.Events.{Event, Done, answered}
 use Rattle.rules.specs.Table.{row1, row3}
 use Rattle.rules.specs.Step.{unless, rule_of, step}
 use Rattle.rules.specs.WorkedOut.{opened, peer_opened}
-use Rattle.rules.proofs.AllLaws.{Comes, Anything, all_then}
+use Rattle.rules.specs.AllLaws.{Comes, Anything}
+use Rattle.rules.proofs.AllLaws.{all_then}
 use Rattle.rules.proofs.AgreeLaws.{then_then}
-use Rattle.rules.proofs.RefusalLaws.{NotTaken}
+use Rattle.rules.specs.RefusalLaws.{NotTaken}
 
 -- ---- the sides
 

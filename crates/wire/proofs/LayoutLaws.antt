@@ -14,6 +14,7 @@ use Rattle.wire.specs.declared.Rest.TheVariants as Q
 use Rattle.octets.specs.Bytes.{puts, bytes_of, size_of, tiles, Bytes, number}
 use Rattle.wire.specs.Layout.{header_entries, timestamp_entries, identity_entries, rest_entries, rest_in, body_entries, row, named, kind_of, type_of, body_of, timestamp_of, timestamp_at, body, message_entries, message_bytes, header_of, identity_at}
 use Rattle.octets.proofs.BytesLaws.{apart, written, puts_append, length-bytes_of, bytes_of_append, number_lt}
+use Rattle.wire.specs.LayoutLaws.{RowBounds, InWidths, HeaderWidths}
 
 -- ---- the header
 
@@ -87,15 +88,6 @@ length_message h b =
     ap length (head_then_body h b) ∙ length-append (bytes_of (header_entries h (row (type_of b)).control)) (bytes_of (body_entries 0 b))
     ∙ omega (arith, length_header h (row (type_of b)).control, n, body_size 0 b)
 
--- ---- the types
-
--- the bounds of a row: a type number has four bits, control a byte, the length two; and each message has room for its timestamp
-pub record RowBounds (t : MessageType) : Type 0 where
-  pub number : (row t).number < 16
-  pub control : (row t).control < 256
-  pub length : (row t).length < 2 ^ 16
-  pub stamped : 44 ≤ (row t).length
-
 pub row_bounds : (t : MessageType) → RowBounds t
 row_bounds M.Sync = record { number = lit< tt; control = lit< tt; length = lit< tt; stamped = lit≤ tt }
 row_bounds M.DelayReq = record { number = lit< tt; control = lit< tt; length = lit< tt; stamped = lit≤ tt }
@@ -159,26 +151,9 @@ timestamp_body M.FollowUp l = refl
 timestamp_body M.DelayResp l = refl
 timestamp_body M.PDelayRespFollowUp l = refl
 
--- ---- what is read of bytes has the widths of its places
-
-pub record InWidths (i : Identity) : Type 0 where
-  pub clock : i.clock < 2 ^ 64
-  pub port : i.port < 2 ^ 16
-
 pub identity_widths : (at : ℕ) (l : List ℕ) → Bytes l → InWidths (identity_at at l)
 unfolding identity_at
 identity_widths at l b = record { clock = number_lt at 8 l b; port = number_lt (at + 8) 2 l b }
-
-pub record HeaderWidths (h : Header) : Type 0 where
-  pub major : h.major_sdo < 16
-  pub minor : h.minor < 16
-  pub domain : h.domain < 256
-  pub minor_sdo : h.minor_sdo < 256
-  pub flags : h.flags < 2 ^ 16
-  pub correction : h.correction < 2 ^ 64
-  pub source : InWidths h.source
-  pub id : h.id < 2 ^ 16
-  pub interval : h.interval < 256
 
 half_width : (x : ℕ) → x < 256 → x / 16 < 16
 half_width x h = omega arith

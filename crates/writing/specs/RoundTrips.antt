@@ -25,7 +25,8 @@ use Rattle.wire.specs.Layout.{header_entries, header_of, timestamp_entries, time
 use Rattle.reading.specs.Unread.{unread, unread_at}
 use Rattle.reading.specs.Reading.{row4, row5, read_of, short_for, reserved, kind_in}
 use Rattle.writing.specs.Writing.{fits_of, write_of, left_of, is_time}
-use Rattle.octets.proofs.BytesLaws.{both, Fits, Reads, reads_parts, reads_back, number_lt, length-bytes_of, length-spell, spell-number}
+use Rattle.octets.specs.BytesLaws.{Fits, Reads}
+use Rattle.octets.proofs.BytesLaws.{both, reads_parts, reads_back, number_lt, length-bytes_of, length-spell, spell-number}
 use Rattle.wire.proofs.LayoutLaws.{message_tiles, length_message, number_kind, row_bounds, body_size}
 use Rattle.reading.specs.ReadingLaws.{row4_passed, row5_passed, IsMessage, message_when, message_is}
 use Rattle.writing.specs.WritingLaws.{Fitting, fits_is, fits_when, write_when, write_is, left_when, time_given}

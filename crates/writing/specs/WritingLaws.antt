@@ -12,7 +12,8 @@ use Rattle.octets.specs.Bytes.{roomy}
 use Rattle.wire.specs.Layout.{row, type_of, message_entries, message_bytes, timestamp_of}
 use Rattle.writing.specs.Writing.{together, fits_of, write_of, left_by, left_of, is_time}
 use Rattle.writing.specs.Numbers.{told}
-use Rattle.octets.proofs.BytesLaws.{both, apart, Fits, roomy_fits, fits_roomy}
+use Rattle.octets.specs.BytesLaws.{Fits}
+use Rattle.octets.proofs.BytesLaws.{both, apart, roomy_fits, fits_roomy}
 use Rattle.std.proofs.Math.Decide.{dec_lt}
 use Rattle.time.specs.Units.{time_of_wire, time_words, wire}
 use Rattle.time.specs.WireLaws.{read_in, read_out}

@@ -1,0 +1,21 @@
+use Rattle.std.proofs.Common.{arith}
+use Rattle.text.specs.PageLaws.{wrote_then}
+use Rattle.recording.proofs.RecordingLaws.{appends, appends_short, appends_unfit, short_message, long_message, length-event, length_timed, field_then}
+use Rattle.recording.specs.Recording.{event_bytes}
+use Rattle.recording.proofs.record_event.Goals as goal
+
+pub returns-then-n-gt-LONGEST : goal.returns-then-n-gt-LONGEST
+returns-then-n-gt-LONGEST c = appends_unfit _ _ _ (long_message _ _ c.if-n-gt-LONGEST.true (omega arith))
+
+pub returns-then-out-size : goal.returns-then-out-size
+returns-then-out-size c = appends_short _ _ _ (length-event _ _) _ (short_message _ _ c.if-n-gt-LONGEST.false (omega arith)) (omega (arith, c.if-out-size.true))
+
+pub returns : goal.returns
+unfolding event_bytes
+returns c =
+    appends _ _ _ (length-event _ _) _
+    (short_message _ _ c.if-n-gt-LONGEST.false (omega arith))
+    (omega (arith, c.if-out-size.false))
+    (field_then _ _ _ (length_timed _ _ _)
+    c.heading-a.ensures
+    (wrote_then c.time-b.ensures c.message.ensures))

@@ -1,0 +1,18 @@
+use Rattle.std.proofs.Common.{arith}
+use Rattle.recording.proofs.RecordingLaws.{appends, appends_short, appends_unfit, short_message, long_message, length-general, length_field, field_then}
+use Rattle.recording.specs.Recording.{event_bytes}
+use Rattle.recording.proofs.record_general.Goals as goal
+
+pub returns-then-n-gt-LONGEST : goal.returns-then-n-gt-LONGEST
+returns-then-n-gt-LONGEST c = appends_unfit _ _ _ (long_message _ _ c.if-n-gt-LONGEST.true (omega arith))
+
+pub returns-then-out-size : goal.returns-then-out-size
+returns-then-out-size c = appends_short _ _ _ (length-general _) _ (short_message _ _ c.if-n-gt-LONGEST.false (omega arith)) (omega (arith, c.if-out-size.true))
+
+pub returns : goal.returns
+unfolding event_bytes
+returns c =
+    appends _ _ _ (length-general _) _
+    (short_message _ _ c.if-n-gt-LONGEST.false (omega arith))
+    (omega (arith, c.if-out-size.false))
+    (field_then _ _ _ (length_field _ _) c.heading-a.ensures c.message.ensures)

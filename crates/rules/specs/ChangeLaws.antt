@@ -1,0 +1,44 @@
+-- What the laws of proofs/ChangeLaws.antt speak of.
+use Rattle.std.specs.Prelude.{◌≡◌, refl, Bool, true, false, cond, [], ℕ}
+use Rattle.std.proofs.Common.{sym, ap, ◌∙◌}
+use Rattle.record.specs.Ids.{id_after}
+use Rattle.record.specs.Record.{is_master, is_slave, with_sync, with_delay, with_slave, with_peer, with_state, slave_of}
+use Rattle.rules.specs.Names.{Identity, MaybeDuration, MaybeMeasurement, Exchange, SlaveState, PortState, Port, NewState, Outcome}
+use Rattle.rules.specs.Worked.{worked}
+use Rattle.rules.specs.Events.{Event, event, general, stamp, sync_timer, delay_timer, filter_answer, set_state, Done, Result, answered}
+use Rattle.rules.specs.Measuring.{settle, sync_out, delay_out, peer_out}
+use Rattle.rules.specs.Rules.{filtered, mean_given, state_set, state_of}
+use Rattle.rules.specs.WorkedOut.{sync_in, delay_in, last_raw}
+use Rattle.rules.specs.Changes.{request_ids, ids_after, last_given, mean_after}
+use Rattle.rules.specs.Step.{rule_of, step}
+use Rattle.rules.specs.AllLaws.{All, Silent}
+use Rattle.rules.specs.EveryLaws.{Heard}
+
+-- ---- configuration, ids and mean delay
+
+pub record Follows (p : Port) (e : Event) (q : Port) : Type 0 where
+  pub config : q.config ≡ p.config
+  pub ids : q.ids ≡ ids_after p e
+  pub mean : q.mean ≡ mean_after p e
+
+-- ---- a state that is set
+
+-- nothing else changes, and nothing is to be done but perhaps a reset
+pub record IsSet (p : Port) (new : NewState) (r : Result) : Type 0 where
+  pub state : r.port.state ≡ state_of new
+  pub peer : r.port.peer ≡ p.peer
+  pub mean : r.port.mean ≡ p.mean
+  pub ids : r.port.ids ≡ p.ids
+  pub config : r.port.config ≡ p.config
+  pub measurement : r.measurement ≡ MaybeMeasurement.None
+  pub sent : r.sent ≡ []
+  pub actions : r.actions ≡ []
+
+-- how a Slave begins: its master, and nothing heard yet
+pub record BeginsAsSlave (master : Identity) (state : PortState) : Type 0 where
+  pub slave : SlaveState
+  pub state_is_slave : state ≡ PortState.Slave slave
+  pub master_is : slave.master ≡ master
+  pub no_sync : sync_in state ≡ Exchange.Empty
+  pub no_delay : delay_in state ≡ Exchange.Empty
+  pub no_raw : last_raw state ≡ MaybeDuration.None

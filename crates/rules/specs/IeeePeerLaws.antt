@@ -1,0 +1,41 @@
+-- What the laws of proofs/IeeePeerLaws.antt speak of.
+use Rattle.std.specs.Prelude.{ℕ, ◌≡◌, refl, true, false, List, ℤ, ◌+ℤ◌, ◌-ℤ◌}
+use Rattle.std.proofs.Common.{sym, ap, ◌∙◌, subst, arith}
+use Rattle.time.specs.declared.WireTimestamp.{WireTimestamp}
+use Rattle.time.specs.Units.{time, duration, wire, correction, half}
+use Rattle.wire.specs.Layout as Layout
+use Rattle.reading.specs.Reading.{read_of}
+use Rattle.octets.proofs.BytesLaws.{apart}
+use Rattle.record.specs.Record.{with_state, with_peer, with_ids}
+use Rattle.rules.specs.Names.{Time, Duration, Identity, Header, Body, Reading, MaybeTime, MaybeIdentity, Mechanism, PeerState, Port, Context, Measurement, MaybeMeasurement}
+use Rattle.rules.specs.Worked.{worked}
+use Rattle.rules.specs.Events.{Event, event, stamp, delay_timer, Result, answered, Brings}
+use Rattle.rules.specs.Measuring.{recovered, peer_out}
+use Rattle.rules.specs.Exchanges.{peer_requested}
+use Rattle.rules.specs.Rules.{peer_id_taken}
+use Rattle.rules.specs.Step.{rule_of, step}
+use Rattle.rules.specs.AllLaws.{All, Silent}
+use Rattle.rules.specs.LinearLaws.{num, ◌⊕◌, ◌⊖◌, equal_sums}
+use Rattle.rules.specs.Ieee.{WireFields, Pdelays, mean_link_delay}
+use Rattle.rules.specs.RunLaws.{Taken, BothOrders, AllOrders}
+use Rattle.rules.specs.IeeeLaws.{wire_fields}
+
+-- ---- what is measured
+
+-- the Pdelay_Resp of both kinds
+abbrev pub response : Pdelays → WireFields
+response (Pdelays.one_step pdelay_resp) = pdelay_resp
+response (Pdelays.two_step pdelay_resp pdelay_resp_follow_up) = pdelay_resp
+
+pub record MeasuresLinkDelay (p : Port) (id : ℕ) (responder : Identity) (m : Pdelays) (t1 t4 : ℤ) (r : Result) : Type 0 where
+  pub event_time : Time
+  pub delay : Duration
+  pub measurement : r.measurement ≡ MaybeMeasurement.Some (Measurement.Peer event_time delay)
+  pub event_time_is : time event_time ≡ t4 -ℤ correction (response m).correction_field
+  pub delay_is : duration delay ≡ mean_link_delay (duration p.config.asymmetry) m t1 t4
+  pub port : r.port ≡ with_state (with_peer p (PeerState.Measured id responder)) (recovered p.state)
+
+-- ---- the request: a delay timer on a port with the peer mechanism takes the next id and opens its exchange
+
+abbrev pub requesting : Port → Port
+requesting p = with_ids p (peer_id_taken p.ids)

@@ -1,0 +1,14 @@
+use Rattle.same.specs.Same.{same_peer}
+use Rattle.same.proofs.exchanges.peer_is_measuring.Goals as goal
+
+pub returns-in-Empty : goal.returns-in-Empty
+unfolding same_peer
+returns-in-Empty c = simp c.in-Empty.is
+
+pub returns-in-Measuring : goal.returns-in-Measuring
+unfolding same_peer
+returns-in-Measuring c = simp (c.same_maybe_time-in-Measuring-3.ensures, c.same_maybe_time-in-Measuring-2.ensures, c.same_maybe_time-in-Measuring.ensures, c.same_maybe_time.ensures, c.same_maybe_identity.ensures, c.in-Measuring.is)
+
+pub returns-in-Measured : goal.returns-in-Measured
+unfolding same_peer
+returns-in-Measured c = simp c.in-Measured.is

@@ -1,0 +1,66 @@
+-- What the laws of proofs/CarriedLaws.antt speak of.
+use Prim.Native.Nat.{ℕ, suc, ◌+◌, ◌*◌, ◌/◌, ◌%◌, ◌^◌, ◌≤◌, ◌<◌}
+use Rattle.std.specs.Prelude.{◌≡◌, refl, false, ◌⊎◌, ℤ, negsuc, ◌+ℤ◌, ◌-ℤ◌, ◌*ℤ◌}
+use Rattle.std.proofs.Common.{sym, ◌∙◌, subst, inl, inr, arith, lt_trans, lit<}
+use Rattle.std.proofs.Math.Path.{ap}
+use Rattle.std.proofs.Math.Decide.{dec_lt}
+use Rattle.std.proofs.Math.IntN.{pos, sub_ℕ}
+use Rattle.time.specs.declared.Time.{Time}
+use Rattle.time.specs.declared.WireTimestamp.{WireTimestamp}
+use Rattle.time.specs.declared.WireAnswer.{WireAnswer}
+use Rattle.time.specs.declared.WireAnswer.TheVariants as W
+use Rattle.time.specs.Units.{spelled, time, wire, wire_of, signed, correction}
+use Rattle.time.specs.Laws.{signed_low}
+use Rattle.time.specs.WireLaws.{Sent, wire_is, wire_sent, wire_out, wire_out_is}
+use Rattle.time.specs.Lemmas.Integers.{pos_sub, negsuc_sub, difference_is, product_is, not_below}
+use Rattle.octets.proofs.BytesLaws.{apart}
+use Rattle.sent.specs.declared.CorrectionAnswer.{CorrectionAnswer}
+use Rattle.sent.specs.declared.CorrectionAnswer.TheVariants as C
+use Rattle.sent.specs.declared.Carried.TheVariants as S
+use Rattle.sent.specs.Messages.{in_correction, correction_of, with_correction, less_fraction, answer_stamp, fraction, follow_stamp}
+use Rattle.sent.specs.Laws.{IsCorrection}
+
+-- ---- a stamp's numbers
+
+abbrev pub units_of : Time → ℕ
+units_of t = spelled t.hi t.lo
+
+-- f: the fraction of a nanosecond in 2 ^ -16 ns
+abbrev pub fraction_of : Time → ℕ
+fraction_of t = units_of t % 2 ^ 32 / 2 ^ 16
+
+-- what is left of n units without the fraction's low 16 bits
+abbrev pub cut_to16 : ℕ → ℕ
+cut_to16 n = n / 2 ^ 16 * 2 ^ 16
+
+-- the units of 2 ^ 48 seconds, too many from there on
+abbrev pub late_from : ℕ
+late_from = 2 ^ 48 * 10 ^ 9 * 2 ^ 32
+
+-- what an answer's correction has to be
+abbrev pub less_of : ℕ → Time → ℤ
+less_of asked t = signed 64 asked -ℤ pos (fraction_of t)
+
+-- ---- what was carried
+
+-- the room that a timestamp and a correction take
+pub record HasRoom (w : WireTimestamp) (c : ℕ) : Type 0 where
+  pub seconds : w.seconds < 2 ^ 48
+  pub nanos : w.nanos < 10 ^ 9
+  pub correction : c < 2 ^ 64
+
+-- where an answer's two parts come from
+pub record Parts (c : ℕ) (a : WireAnswer) (w : WireTimestamp) (r : ℕ) : Type 0 where
+  pub f : ℕ
+  pub stamp : a ≡ W.Value w f
+  pub less : correction_of (signed 64 c -ℤ pos f) ≡ C.Value r
+
+-- x - (z - f) × 65,536 is x + f × 65,536 - z × 65,536: where z is a difference, and for each z
+abbrev pub Scaled : ℕ → ℕ → ℤ → Type 0
+Scaled x f z = pos x -ℤ (z -ℤ pos f) *ℤ pos 65536 ≡ pos (x + f * 65536) -ℤ z *ℤ pos 65536
+
+-- ---- when something is carried, and when nothing
+
+-- whole seconds, and the whole nanoseconds of the last
+abbrev pub stamp_of : Time → WireTimestamp
+stamp_of t = record { seconds = units_of t / 2 ^ 32 / 10 ^ 9; nanos = units_of t / 2 ^ 32 % 10 ^ 9 }
