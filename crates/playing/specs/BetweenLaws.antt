@@ -1,5 +1,5 @@
 -- Laws of the window between two turns.
-use Rattle.std.specs.Prelude.{ℕ, zero, suc, ◌+◌, ◌-◌, ◌^◌, ◌≤◌, ◌<◌, min, ◌≡◌, Bool, not, List, ◌++◌, ℤ, pos, negsuc, length, take, drop}
+use Rattle.std.specs.Prelude.{ℕ, zero, suc, ◌+◌, ◌-◌, ◌^◌, ◌≤◌, ◌<◌, ◌≡◌, Bool, not, List, ◌++◌, ℤ, pos, negsuc, length, take, drop}
 use Rattle.std.proofs.Math.Path.{refl}
 use Rattle.std.proofs.Common.{sym, ◌∙◌, ap, subst, true≢false, arith, length-drop, length-append, length-take-le, take_at}
 use Rattle.std.proofs.Math.Bool.{true, false}

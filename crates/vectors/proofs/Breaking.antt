@@ -1,10 +1,8 @@
 -- Laws of a record that is not read to its end.
-use Rattle.std.specs.Prelude.{ℕ, ◌+◌, ◌≤◌, ◌<◌, ◌≡◌, List, ◌++◌, length, take, OnErr}
-use Rattle.std.proofs.Common.{sym, ap, subst, refl, arith, append-nil, length-append, length-take-le}
+use Rattle.std.specs.Prelude.{ℕ, Result, Ok, Err, ◌≤◌, ◌<◌, ◌≡◌, List, ◌++◌, length, take, OnErr}
+use Rattle.std.proofs.Common.{sym, subst, refl, arith, append-nil, length-append, length-take-le}
 use lib.Seq.{take-append-le}
-use Rattle.core.specs.declared.option.Option.{Option}
-use Rattle.core.specs.declared.result.Result.{Result}
-use Rattle.core.specs.declared.result.Result.TheVariants.{Ok, Err}
+use Rattle.std.specs.declared.option.Option.{Option}
 use Rattle.std.specs.Io.KnownBytes.{Consumes}
 use Rattle.std.proofs.KnownBytes.{Consumes-trans}
 use Rattle.vectors.specs.Fetching.{Broken}

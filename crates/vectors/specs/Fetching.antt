@@ -1,6 +1,6 @@
 -- A record that is not read to its end, since a read failed.
 use Rattle.std.specs.Prelude.{ℕ, ◌≤◌, ◌<◌, ◌≡◌, List, ◌++◌, length, take}
-use Rattle.core.specs.declared.option.Option.{Option}
+use Rattle.std.specs.declared.option.Option.{Option}
 use Rattle.std.specs.Io.KnownBytes.{Consumes}
 
 -- What came are the record's three lengths, cut short or whole, and then the front of the window, and no byte is lost. The window w is as it was where
