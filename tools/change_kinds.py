@@ -1,4 +1,6 @@
-"""The kinds of single-place change that tools/changes.py tries. Each function below yields (kind, edits) for a
+"""Of the older Rattle kit, as tools/changes.py is: with today's, 'rt plant' stands for both.
+
+The kinds of single-place change that tools/changes.py tries. Each function below yields (kind, edits) for a
 function's Sites, an edit being (start, end, new text); several edits make one change where two things are exchanged.
 """
 

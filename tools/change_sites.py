@@ -1,4 +1,6 @@
-"""The single-place changes of a crate's code: what tools/changes.py tries.
+"""Of the older Rattle kit, as tools/changes.py is: with today's, 'rt plant' stands for both.
+
+The single-place changes of a crate's code: what tools/changes.py tries.
 
 The code is read as tokens, with the types of a function's variables as far as they are written somewhere: enough to
 exchange a value for another of its type. What a change makes that is no code, the compiler refuses. Clauses, comments,

@@ -1,5 +1,7 @@
 #!/usr/bin/env python3
-"""Tries single-place changes of a crate's code: the prover has to refuse each, because a fact no longer holds.
+"""Of the older Rattle kit: with today's, 'rt plant' in a crate's folder stands for this. --list needs no kit.
+
+Tries single-place changes of a crate's code: the prover has to refuse each, because a fact no longer holds.
 
     tools/changes.py CRATE.. [--least N] [--all] [--seed N] [--list] [--only TEXT]      after 'rt check'
 
@@ -29,6 +31,7 @@ from change_kinds import LAST, changes_of, edit, numbers_near
 from change_sites import Sites, Tokens, Types, functions_in
 
 repository = Path(__file__).resolve().parent.parent
+OLDER = "changes.py: this is of the older Rattle kit, whose prover is not here; today 'rt plant' in a crate's folder stands for it"
 SHAPE = re.compile(
     r"has no field|no `Need|not in scope|is not a field|does not export|exports no|unknown name|cannot find|no such"
     r"|nothing named|is not defined|takes .* arguments?|too many arguments|is not a function|has no module|no module|that can be named from here"
@@ -118,9 +121,11 @@ class Prover:
     """'rattle check' of the crate's copy, with the words that rt gives it."""
 
     def __init__(self, crate):
-        rt = os.path.realpath(shutil.which("rt") or sys.exit("no rt on the path"))
+        rt = os.path.realpath(shutil.which("rt") or sys.exit(OLDER))
         home = Path(os.environ.get("RATTLE_HOME") or Path(rt).parent.parent)
         own = home / "on" / platform.machine()
+        if not (own / "bin" / "rattle").exists():
+            sys.exit(OLDER)
         self.crate, self.copy = crate, repository / "target" / "changes" / crate
         self.source = repository / "crates" / crate
         root = "main.rt" if (self.source / "src" / "main.rt").exists() else "lib.rt"
@@ -236,7 +241,7 @@ def try_crate(crate, world, given):
     found = changes_in(crate, world, given.seed)
     queues = [q for owner, q in sorted(found.items()) if not given.only or given.only in owner]
     possible = sum(map(len, queues))
-    prover, verdicts, counted = Prover(crate), {}, 0
+    prover, verdicts, counted = None if given.list else Prover(crate), {}, 0
     while any(queues) and (given.all or counted < given.least):
         batch = next_batch(queues, 10**6 if given.all else (given.least - counted) * 5 // 4 + 2)
         if given.list:
@@ -253,7 +258,7 @@ def try_crate(crate, world, given):
         print("\n".join(c.told() for c in verdicts))
     count = lambda v: sum(w == v for w in verdicts.values())
     row = [crate, possible, len(verdicts), count("fact"), count("shape"), count("no code"), count("through"), count("unclear")]
-    print("| " + " | ".join(map(str, row)) + f" |   {prover.time:.0f} s", flush=True)
+    print("| " + " | ".join(map(str, row)) + (f" |   {prover.time:.0f} s" if prover else " |"), flush=True)
     return row, [(crate, c) for c in verdicts if verdicts[c] in ("through", "unclear")]
 
 

@@ -164,7 +164,7 @@ take() { # DAEMON MECHANISM TRANSPORT
 
 [ -z "$only" ] || [ $# -eq 2 ] || fail "--captures wants seconds and a folder"
 needed='ip setpriv tcpdump ptp4l pmc ptpd'
-[ -n "$only" ] || needed="$needed tshark python3 rt"
+[ -n "$only" ] || needed="$needed tshark python3"
 for c in $needed; do
     command -v "$c" >/dev/null || fail "$c is not on the path"
 done

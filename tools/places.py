@@ -1,5 +1,8 @@
 #!/usr/bin/env python3
-"""The places of a function's proof, and the path to each from where a fact is wanted.
+"""Of the older Rattle kit: with today's, 'rt check --start F --allow-holes' in a crate's folder stands for this. It writes
+the first proof files of a function F that has none, and prints its goals and the names that they can cite.
+
+The places of a function's proof, and the path to each from where a fact is wanted.
 
     tools/places.py CRATE FUNCTION [NEED..]      after 'rt goals CRATE'
 
@@ -11,6 +14,11 @@ the facts of a branch or a match.
 import re
 import sys
 from pathlib import Path
+
+OLDER = (
+    "places.py: this is of the older Rattle kit, and reads what its 'rt goals' wrote to {}, which is not there;"
+    " today 'rt check --start F --allow-holes' in the crate's folder stands for it"
+)
 
 
 def fields(lines, start):
@@ -54,10 +62,10 @@ def main():
     if len(sys.argv) < 3:
         sys.exit(__doc__)
     crate, function, *only = sys.argv[1:]
-    folder = Path("target") / "goals" / crate / f"Rattle·{crate}·proofs" / "proofs" / function
-    if not folder.exists():
-        sys.exit(f"no {folder}; 'rt goals {crate}' writes it")
-    records, needs = parse((folder / "Lts.antt").read_text().split("\n"))
+    file = Path("target") / "goals" / crate / f"Rattle·{crate}·proofs" / "proofs" / function / "Lts.antt"
+    if not file.exists():
+        sys.exit(OLDER.format(file))
+    records, needs = parse(file.read_text().split("\n"))
     for need, name in needs.items():
         if not only or need in only:
             print(need)

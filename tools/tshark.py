@@ -1,7 +1,6 @@
 """PTP messages as tshark shows them, and how a proved program is started: for tools/tshark_packets.py and compare/traffic."""
 
 import json
-import os
 import struct
 import subprocess
 import sys
@@ -30,18 +29,11 @@ def fail(text):
 
 
 def program(name):
-    """The words that run a proved program: the kit's loader and C library, and its emulator where there is one."""
-    binary = Path(__file__).resolve().parent.parent / "target" / "bin" / name
+    """The words that run a proved program."""
+    binary = Path(__file__).resolve().parent.parent / "crates" / name / "out" / name
     if not binary.exists():
-        fail(f"no target/bin/{name}; 'rt check {name}' proves and makes it")
-    try:
-        guide = subprocess.run(["rt", "doc"], capture_output=True, text=True, check=True).stdout.strip()
-    except OSError:
-        fail("the Rattle kit's command rt is not on the path")
-    kit = Path(guide).parent.parent / "on" / os.uname().machine / "toolchain"
-    emulator = kit / "bin" / "qemu-x86_64"
-    loader = [str(kit / "lib" / "ld-linux-x86-64.so.2"), "--library-path", str(kit / "lib"), str(binary)]
-    return ([str(emulator)] if os.access(emulator, os.X_OK) else []) + loader
+        fail(f"no {name} in crates/{name}/out; 'rt run' in crates/{name} proves and makes it")
+    return [str(binary)]
 
 
 def flat(tree, into):

@@ -8,8 +8,8 @@ Without a file, the program writes each sent message once and each message of th
 every field another value, then some with drawn values; tshark has to show every value that was asked
 for. With files, each PTP message that tshark finds (Ethernet or UDP) is put to the program, and all that
 it answers has to be what tshark shows; types 11 to 13 have to be answered 8. Then our writer gets what was
-read, and it is told how often it makes the same bytes. Needs tshark, and the proved program in target/bin
-('rt check wire_vectors' makes it, './tefandukk tshark' makes it and runs this).
+read, and it is told how often it makes the same bytes. Needs tshark, and the proved program in crates/wire_vectors/out
+('rt run' there makes it, './tefandukk tshark' makes it and runs this).
 """
 
 import random

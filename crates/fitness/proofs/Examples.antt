@@ -1,20 +1,14 @@
 -- Witnesses, each computed: for every clause of row 2 a record that is unfit by it alone, beside a neighbour that is fit; what row 2 does not list; and what row 3 does at its edges.
-use Rattle.std.specs.Prelude.{ℕ, ◌-◌, ◌^◌, ◌≡◌, refl, true, false}
-use Rattle.time.specs.declared.Time.{Time}
+use Rattle.std.specs.Prelude.{◌-◌, ◌^◌, ◌≡◌, refl, true, false}
 use Rattle.time.specs.declared.Duration.{Duration}
 use Rattle.time.specs.Units.{time, in_time, signed}
 use Rattle.timers.specs.Timers.{interval, in_interval, in_draw}
-use Rattle.wire.specs.declared.Identity.{Identity}
-use Rattle.record.specs.declared.MaybeTime.{MaybeTime}
 use Rattle.record.specs.declared.MaybeTime.TheVariants.{None, Some}
 use Rattle.record.specs.declared.MaybeDuration.{MaybeDuration}
-use Rattle.record.specs.declared.MaybeIdentity.{MaybeIdentity}
 use Rattle.record.specs.declared.Exchange.{Exchange}
 use Rattle.record.specs.declared.PortState.{PortState}
 use Rattle.record.specs.declared.PeerState.{PeerState}
 use Rattle.record.specs.declared.Mechanism.{Mechanism}
-use Rattle.record.specs.declared.Config.{Config}
-use Rattle.record.specs.declared.Port.{Port}
 use Rattle.fitness.specs.Fit.{time_out, interval_out, draw_out, sdo_out, minor_out, config_out, unfit}
 use Rattle.fitness.specs.Examples.{last_time, late_time, a_time, someone, one_known, none_known, lowest_duration, configured, ported, slave_with, sync_open, delay_open, peer_open, with_numbers, Edge}
 

@@ -1,12 +1,10 @@
 -- What the laws of proofs/Examples.antt speak of.
-use Rattle.std.specs.Prelude.{ℕ, ◌-◌, ◌^◌, ◌≡◌, refl, true, false}
+use Rattle.std.specs.Prelude.{ℕ, ◌-◌, ◌^◌, ◌≡◌, true, false}
 use Rattle.time.specs.declared.Time.{Time}
 use Rattle.time.specs.declared.Duration.{Duration}
-use Rattle.time.specs.Units.{time, in_time, signed}
-use Rattle.timers.specs.Timers.{interval, in_interval, in_draw}
 use Rattle.wire.specs.declared.Identity.{Identity}
 use Rattle.record.specs.declared.MaybeTime.{MaybeTime}
-use Rattle.record.specs.declared.MaybeTime.TheVariants.{None, Some}
+use Rattle.record.specs.declared.MaybeTime.TheVariants.{Some}
 use Rattle.record.specs.declared.MaybeDuration.{MaybeDuration}
 use Rattle.record.specs.declared.MaybeIdentity.{MaybeIdentity}
 use Rattle.record.specs.declared.Exchange.{Exchange}
@@ -15,7 +13,7 @@ use Rattle.record.specs.declared.PeerState.{PeerState}
 use Rattle.record.specs.declared.Mechanism.{Mechanism}
 use Rattle.record.specs.declared.Config.{Config}
 use Rattle.record.specs.declared.Port.{Port}
-use Rattle.fitness.specs.Fit.{time_out, interval_out, draw_out, sdo_out, minor_out, config_out, unfit}
+use Rattle.fitness.specs.Fit.{unfit}
 
 -- ---- the parts
 

@@ -1,22 +1,14 @@
 -- What the laws of proofs/FitLaws.antt speak of.
-use Rattle.std.specs.Prelude.{ℕ, ◌<◌, ◌≡◌, refl, Bool, true, false, ◌||◌, not, List, [], ◌∷◌, ◌++◌}
-use Rattle.std.proofs.Common.{sym, ◌∙◌, true≢false, arith, ltb-false, le-ltb}
-use Rattle.std.proofs.Math.Bool.{or_assoc, or-false}
-use Rattle.std.proofs.lemmas.Bool.{not-false}
-use Rattle.octets.proofs.BytesLaws.{neither}
-use Rattle.time.specs.declared.Time.{Time}
+use Rattle.std.specs.Prelude.{◌<◌, ◌≡◌, Bool, true, false, List, [], ◌∷◌}
 use Rattle.time.specs.Units.{time, in_time}
 use Rattle.timers.specs.Timers.{interval, in_interval}
 use Rattle.record.specs.declared.MaybeTime.{MaybeTime}
-use Rattle.record.specs.declared.MaybeIdentity.{MaybeIdentity}
 use Rattle.record.specs.declared.Exchange.{Exchange}
 use Rattle.record.specs.declared.PortState.{PortState}
 use Rattle.record.specs.declared.PeerState.{PeerState}
 use Rattle.record.specs.declared.Config.{Config}
 use Rattle.record.specs.declared.Port.{Port}
-use Rattle.record.specs.Record.{port_of}
-use Rattle.fitness.specs.Fit.{held_time, times_in, slave_times, peer_times, time_out, any_out, interval_out, sdo_out, minor_out, timeless, unanswered, full, peer_full, sync_timeless, slave_full, config_out, unfit}
-use Rattle.record.specs.JoinedLaws.{all_false, none_true}
+use Rattle.fitness.specs.Fit.{peer_times, any_out, unanswered, peer_full, sync_timeless, slave_full, config_out}
 
 -- ---- a fit record, part by part
 

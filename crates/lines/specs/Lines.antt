@@ -17,7 +17,6 @@ use Rattle.record.specs.declared.Outcome.{Outcome}
 use Rattle.record.specs.declared.PeerState.{PeerState}
 use Rattle.record.specs.declared.Port.{Port}
 use Rattle.record.specs.declared.PortState.{PortState}
-use Rattle.record.specs.declared.SlaveState.{SlaveState}
 use Rattle.record.specs.Answers.{number_of, first_actions}
 use Rattle.record.specs.Record.{state_number}
 use Rattle.rules.specs.Events.{Result}

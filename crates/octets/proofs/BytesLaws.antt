@@ -5,7 +5,7 @@ use Rattle.std.proofs.Math.Nat.{pow-le-pow_right}
 use Rattle.std.proofs.Math.ListN.{get_or-append}
 use Rattle.std.proofs.lemmas.List.Edits.{sets, sets-eq}
 use Rattle.std.proofs.lemmas.List.{set_comm, get_or_at}
-use Rattle.octets.specs.Bytes.{Entry, number, spell, put, puts, bytes_of, tiles, size_of, roomy, field_at, Bytes}
+use Rattle.octets.specs.Bytes.{Entry, number, spell, put, puts, bytes_of, tiles, size_of, roomy, Bytes}
 use Rattle.octets.specs.BytesLaws.{Fits, Reads}
 
 below : (v b : ℕ) → v < b * 256 → v / 256 < b

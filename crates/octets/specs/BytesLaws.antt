@@ -1,11 +1,6 @@
 -- What the laws of proofs/BytesLaws.antt speak of.
-use Rattle.std.specs.Prelude.{ℕ, zero, suc, ◌+◌, ◌-◌, ◌*◌, ◌^◌, ◌/◌, ◌%◌, ◌≤◌, ◌<◌, ◌≡◌, refl, Bool, true, false, ◌&&◌, ◌||◌, List, [], ◌∷◌, ◌++◌, length, get_or, set, take, drop, eqb, ltb}
-use Rattle.std.proofs.Common.{sym, ◌∙◌, ap, append_assoc, add-zero, zero-add, add-suc, suc-add, add_assoc, pow-suc, div-add-mod', add-one, arith, length-append, length-drop, get_or-append-add, get_or-drop, take-suc, eqb-true, ltb-true, lt-ltb}
-use Rattle.std.proofs.Math.Nat.{pow-le-pow_right}
-use Rattle.std.proofs.Math.ListN.{get_or-append}
-use Rattle.std.proofs.lemmas.List.Edits.{sets, sets-eq}
-use Rattle.std.proofs.lemmas.List.{set_comm, get_or_at}
-use Rattle.octets.specs.Bytes.{Entry, number, spell, put, puts, bytes_of, tiles, size_of, roomy, field_at, Bytes}
+use Rattle.std.specs.Prelude.{ℕ, ◌^◌, ◌<◌, ◌≡◌, List, [], ◌∷◌}
+use Rattle.octets.specs.Bytes.{Entry, field_at}
 
 -- each value fits its place
 abbrev pub Fits : List Entry → Type 0

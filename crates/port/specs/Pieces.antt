@@ -5,7 +5,6 @@ use Rattle.writing.specs.declared.Written.TheVariants as W
 use Rattle.writing.specs.Writing.{write_of}
 use Rattle.record.specs.declared.Answer.{Answer}
 use Rattle.record.specs.Answers.{with_length}
-use Rattle.rules.specs.Step.{step}
 use Rattle.handling.specs.declared.MaybeMessage.{MaybeMessage}
 
 -- ---- what is sent

@@ -1,25 +1,9 @@
 -- What the laws of proofs/UnreadLaws.antt speak of.
-use Rattle.std.specs.Prelude.{ℕ, ◌+◌, ◌≤◌, ◌<◌, ◌≡◌, Bool, ◌&&◌, List, [], ◌∷◌, ◌++◌, length, get_or, ltb, leb}
-use Rattle.std.proofs.Math.Path.{refl, ap}
-use Rattle.std.proofs.Common.{sym, ◌∙◌, length-append, lit≤, ltb-true, ltb-false, leb-true, leb-false, le-leb, lt-ltb, le-ltb}
-use Rattle.std.proofs.Math.Bool.{true, false, cond}
-use Rattle.std.proofs.lemmas.Bool.{false≢true, lt-leb}
-use native.Mathlib.Omega.{arith}
-use Rattle.std.proofs.Math.ListN.{get_or-append}
-use Rattle.time.specs.Units.{time_of_wire}
-use Rattle.wire.specs.declared.MessageType.{MessageType}
-use Rattle.wire.specs.declared.MessageType.TheVariants as M
+use Rattle.std.specs.Prelude.{ℕ, ◌+◌, ◌≤◌, ◌<◌, ◌≡◌, List, [], ◌∷◌, get_or, ltb}
+use Rattle.std.proofs.Math.Bool.{false}
 use Rattle.wire.specs.declared.Kind.{Kind}
-use Rattle.wire.specs.declared.Kind.TheVariants as K
-use Rattle.wire.specs.declared.Body.TheVariants as B
-use Rattle.reading.specs.declared.Reading.TheVariants as G
-use Rattle.octets.specs.Bytes.{Place, field_at, number}
-use Rattle.wire.specs.Layout.{row, header_of, body_of, timestamp_at, identity_at, body, low_half, kind_of, message_length}
-use Rattle.reading.specs.Unread.{read_to, unread, lies, unread_at, reserved_in}
-use Rattle.reading.specs.Reading.{row4, row5, timed, message_of, decoded, read_of, short_for, kind_in, stated_end}
-use Rattle.octets.proofs.BytesLaws.{neither, number_same, number_inside}
-use Rattle.wire.proofs.LayoutLaws.{row_bounds}
-use Rattle.reading.specs.ReadingLaws.{past_row5}
+use Rattle.octets.specs.Bytes.{Place}
+use Rattle.reading.specs.Unread.{unread_at}
 
 -- byte i lies in none of the places, as facts
 abbrev pub Outside : List Place → ℕ → Type 0

@@ -1,5 +1,5 @@
 -- Laws of answers: the places hold the actions in their order, parts set one by one make the answer that `answer_of` spells, and the table's numbers tell outcomes apart.
-use Rattle.std.specs.Prelude.{ℕ, ◌≤◌, ◌<◌, ◌≡◌, Bool, false, cond, eqb, length}
+use Rattle.std.specs.Prelude.{ℕ, ◌≤◌, ◌<◌, ◌≡◌, Bool, false, length}
 use Rattle.std.proofs.Math.Path.{refl}
 use Rattle.std.proofs.Common.{sym, ap, ◌∙◌, arith, le-ltb}
 use mathlib.Core.List.{List, [], ◌∷◌, ◌++◌}

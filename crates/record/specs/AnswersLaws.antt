@@ -1,14 +1,6 @@
 -- What the laws of proofs/AnswersLaws.antt speak of.
-use Rattle.std.specs.Prelude.{ℕ, ◌≤◌, ◌<◌, ◌≡◌, Bool, false, cond, eqb, length}
-use Rattle.std.proofs.Math.Path.{refl}
-use Rattle.std.proofs.Common.{sym, ap, ◌∙◌, arith, le-ltb}
-use mathlib.Core.List.{List, [], ◌∷◌, ◌++◌}
-use Rattle.record.specs.declared.Port.{Port}
+use Rattle.std.specs.Prelude.{ℕ, cond, eqb}
 use Rattle.record.specs.declared.Outcome.{Outcome}
-use Rattle.record.specs.declared.Measurement.{Measurement}
-use Rattle.record.specs.declared.MaybeMeasurement.{MaybeMeasurement}
-use Rattle.record.specs.declared.Action.{Action}
-use Rattle.record.specs.Answers.{number_of, places, first_actions, answer_of, taken_with, with_measurement, with_reset, with_length, with_action}
 
 -- ---- numbers
 

@@ -1,25 +1,14 @@
 -- What the laws of proofs/ReadsBack.antt speak of.
-use Rattle.std.specs.Prelude.{ℕ, ◌+◌, ◌≤◌, ◌<◌, ◌≡◌, Bool, true, false, drop}
-use Rattle.std.proofs.Math.Path.{refl, ap}
-use Rattle.std.proofs.Common.{◌∙◌, arith, drop_at}
+use Rattle.std.specs.Prelude.{ℕ, ◌≡◌, Bool, true, false}
 use mathlib.Core.List.{List, [], ◌∷◌, ◌++◌}
-use Rattle.std.proofs.Math.Option.{none, some}
-use borrow.Author.Tests.{leb-true}
 use Rattle.std.proofs.Math.ListN.{length}
-use Rattle.std.proofs.Math.Seq.{take-append_seam, drop-append_seam}
-use Rattle.octets.specs.Bytes.{spell}
-use Rattle.record.specs.declared.Config.{Config}
-use Rattle.rules.specs.Events.{Event, event, general, stamp, sync_timer, delay_timer, filter_answer, set_state}
+use Rattle.rules.specs.Events.{Event}
 use Rattle.event_log.specs.declared.Logged.{Logged}
-use Rattle.event_log.specs.declared.Found.{Found}
 use Rattle.event_log.specs.declared.Next.{Next}
-use Rattle.event_log.specs.Fields.{field_of, none_of, front_of, seen}
-use Rattle.streaming.specs.Log.{Log, end, next, starts, told, scan, gathered, read_log}
-use Rattle.streaming.proofs.StreamingLaws.{scan_at}
-use Rattle.recording.specs.Recording.{field_bytes, time_bytes, context_bytes, state_bytes, mean_bytes, next_bytes, config_bytes, event_bytes, recordable}
-use Rattle.recording.specs.Fitting.{Fitting, ConfigIn}
-use Rattle.recording.specs.RecordingLaws.{config_value}
-use Rattle.recording.specs.StandsLaws.{Stands}
+use Rattle.event_log.specs.Fields.{front_of}
+use Rattle.streaming.specs.Log.{told}
+use Rattle.recording.specs.Recording.{event_bytes, recordable}
+use Rattle.recording.specs.Fitting.{Fitting}
 
 -- ---- what is said
 

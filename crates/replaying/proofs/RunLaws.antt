@@ -1,20 +1,17 @@
 -- One induction for all that is said of a run over a window: what stands at the front, and the rest of the run behind it.
-use Rattle.std.specs.Prelude.{◌≡◌, ℕ, zero, suc, ◌+◌, ◌-◌, ◌<◌, ◌≤◌, Bool, true, false, List, [], length, take, drop, nat_lt, refl}
+use Rattle.std.specs.Prelude.{◌≡◌, ℕ, zero, suc, ◌+◌, ◌-◌, ◌<◌, ◌≤◌, Bool, true, false, List, length, take, drop, nat_lt, refl}
 use Rattle.std.proofs.Common.{sym, subst, arith, ltb-true, ltb-false, length-drop}
-use Rattle.record.specs.declared.Config.{Config}
 use Rattle.rules.specs.Events.{Event}
-use Rattle.event_log.specs.declared.Logged.{Logged}
 use Rattle.event_log.specs.declared.Next.{Next}
 use Rattle.event_log.specs.Fields.{front_of}
 use Rattle.streaming.specs.Log.{Fields, scan, told, onward}
 use Rattle.streaming.specs.FrontLaws.{Front, front}
 use Rattle.streaming.proofs.StreamingLaws.{scan_is}
 use Rattle.lines.specs.declared.Style.{Style}
-use Rattle.lines.specs.Lines.{line_of, bad_line, last_line}
+use Rattle.lines.specs.Lines.{line_of}
 use Rattle.replaying.specs.declared.State.{State}
-use Rattle.replaying.specs.declared.Stop.{Stop}
 use Rattle.replaying.specs.Replay.{answer_to}
-use Rattle.replaying.specs.Turns.{line_room, opened, moved, Run, stopped, after, run_of}
+use Rattle.replaying.specs.Turns.{line_room, opened, moved, Run, run_of}
 use Rattle.replaying.specs.OneLaws.{run_starts, run_next, run_good, run_bad, run_rest}
 use Rattle.replaying.proofs.TurnLaws.{full_run}
 use Rattle.replaying.specs.RunLaws.{Steps}

@@ -1,5 +1,5 @@
 -- Turns put together: what a session has written when it ends is what the whole log writes.
-use Rattle.std.specs.Prelude.{◌≡◌, ℕ, ◌+◌, ◌-◌, ◌%◌, ◌^◌, ◌≤◌, Bool, true, false, List, [], ◌∷◌, ◌++◌, length, take, drop, ◌≢◌}
+use Rattle.std.specs.Prelude.{◌≡◌, ℕ, ◌+◌, ◌%◌, ◌^◌, ◌≤◌, Bool, true, false, List, [], ◌∷◌, ◌++◌, length, take, drop, ◌≢◌}
 use Rattle.std.proofs.Math.Path.{refl, ap}
 use Rattle.std.proofs.Common.{sym, ◌∙◌, subst, append_assoc, append-nil, arith, add-zero, add_assoc, length-drop, drop-drop}
 use Rattle.std.proofs.Math.Option.{Option, none, some}
@@ -7,7 +7,6 @@ use Rattle.std.proofs.Math.Nat.{mod-add-mod}
 use Rattle.std.proofs.lemmas.List.{drop-append-le, take-append-le}
 use Rattle.record.specs.declared.Config.{Config}
 use Rattle.record.specs.declared.Port.{Port}
-use Rattle.rules.specs.Events.{Event}
 use Rattle.octets.proofs.BytesLaws.{apart}
 use Rattle.event_log.specs.declared.Next.{Next}
 use Rattle.event_log.specs.Fields.{front_of}

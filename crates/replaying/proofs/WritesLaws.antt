@@ -11,7 +11,7 @@ use Rattle.octets.proofs.BytesLaws.{apart}
 use Rattle.streaming.specs.FrontLaws.{Front, front}
 use Rattle.streaming.proofs.StreamingLaws.{scan_is}
 use Rattle.lines.specs.declared.Style.{Style}
-use Rattle.lines.specs.Lines.{line_of, bad_line, last_line}
+use Rattle.lines.specs.Lines.{line_of}
 use Rattle.replaying.specs.Replay.{answer_to, results_from, record_after, numbered, last_of, without_port, lines_for, lines_of, replay_lines}
 use Rattle.replaying.specs.WritesLaws.{writes, NoStart}
 

@@ -5,7 +5,7 @@ use Rattle.std.proofs.Math.Nat.{add-sub_cancel_left}
 use Rattle.time.specs.declared.Time.{Time}
 use Rattle.record.specs.declared.Answer.{Answer}
 use Rattle.record.specs.declared.Port.{Port}
-use Rattle.rules.specs.Events.{Event, event, general}
+use Rattle.rules.specs.Events.{event, general}
 use Rattle.port.specs.Entries.{Answers}
 use Rattle.event_log.specs.declared.Logged.{Logged}
 use Rattle.streaming.specs.Log.{told}

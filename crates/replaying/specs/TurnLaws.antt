@@ -1,17 +1,10 @@
 -- What the laws of proofs/TurnLaws.antt speak of.
-use Rattle.std.specs.Prelude.{◌≡◌, ℕ, ◌+◌, ◌-◌, ◌<◌, ◌≤◌, Bool, List, [], ◌++◌, length, drop, refl}
-use Rattle.std.proofs.Common.{sym, ◌∙◌, ap, subst, append_assoc, append-nil, arith, add-zero, zero-add, add_assoc, lt-ltb, length-append}
-use Rattle.std.proofs.Math.Nat.{sub-zero}
-use Rattle.streaming.specs.Log.{Fields, starts, next, good, bad, rest, scan}
+use Rattle.std.specs.Prelude.{◌≡◌, ℕ, ◌+◌, ◌-◌, ◌≤◌, Bool, List, length, drop}
+use Rattle.streaming.specs.Log.{scan}
 use Rattle.lines.specs.declared.Style.{Style}
 use Rattle.text.specs.Page.{Wrote}
-use Rattle.text.specs.PageLaws.{wrote_then, wrote_nothing, wrote_same, wrote_first}
 use Rattle.replaying.specs.declared.State.{State}
-use Rattle.replaying.specs.declared.Stop.{Stop}
-use Rattle.replaying.specs.declared.one.Went.{Went}
-use Rattle.octets.proofs.BytesLaws.{apart}
-use Rattle.replaying.specs.Turns.{line_room, Run, stopped, after, run_of, Turned, Leaves}
-use Rattle.replaying.specs.OneLaws.{One}
+use Rattle.replaying.specs.Turns.{after, run_of}
 
 -- ---- between two fields: w was written, and the run goes on from place i with the state p
 

@@ -1,18 +1,11 @@
 -- What the laws of proofs/WritesLaws.antt speak of.
-use Rattle.std.specs.Prelude.{◌≡◌, ℕ, zero, suc, ◌+◌, ◌%◌, ◌^◌, ◌<◌, ◌≤◌, Bool, true, false, List, ◌++◌, length, drop}
-use Rattle.std.proofs.Math.Path.{refl, sym, ap, subst}
-use Rattle.std.proofs.Common.{◌∙◌, append_assoc, arith, length-drop}
+use Rattle.std.specs.Prelude.{ℕ, ◌+◌, ◌%◌, ◌^◌, List, ◌++◌}
 use Rattle.record.specs.declared.Port.{Port}
 use Rattle.record.specs.Record.{port_of}
-use Rattle.event_log.specs.declared.Next.{Next}
-use Rattle.event_log.specs.Fields.{front_of}
-use Rattle.streaming.specs.Log.{Fields, starts, next, good, bad, rest, scan, onward, gathered, read_log}
-use Rattle.octets.proofs.BytesLaws.{apart}
-use Rattle.streaming.specs.FrontLaws.{Front, front}
-use Rattle.streaming.proofs.StreamingLaws.{scan_is}
+use Rattle.streaming.specs.Log.{Fields, starts, next, good, bad, rest}
 use Rattle.lines.specs.declared.Style.{Style}
 use Rattle.lines.specs.Lines.{line_of, bad_line, last_line}
-use Rattle.replaying.specs.Replay.{answer_to, results_from, record_after, numbered, last_of, without_port, lines_for, lines_of, replay_lines}
+use Rattle.replaying.specs.Replay.{answer_to}
 
 unfoldable pub writes : Style → Port → ℕ → Fields → List ℕ
 writes style p n (starts c k l) = writes style (port_of c) n l

@@ -1,5 +1,5 @@
 -- Actions, for every event and whatever is answered: how many, in which order, and that a packet goes out exactly when something is sent.
-use Rattle.std.specs.Prelude.{◌≡◌, refl, Bool, true, false, cond, List, [], ◌∷◌, ℕ, ◌≤◌, length, eqb}
+use Rattle.std.specs.Prelude.{◌≡◌, refl, Bool, true, false, cond, List, [], ◌∷◌, ℕ, length, eqb}
 use Rattle.std.proofs.Common.{sym, ◌∙◌}
 use Rattle.std.proofs.Math.Path.{ap}
 use Rattle.std.proofs.Math.Option.{none}
@@ -11,11 +11,11 @@ use Rattle.sent.proofs.SentLaws.{carrying_is}
 use Rattle.rules.specs.Names.{Time, Header, Identity, Body, Message, MessageAnswer, Sender, Port, Context, Action, PortState, Outcome, MaybeNanoseconds, MaybeMeasurement}
 use Rattle.record.specs.Record.{is_faulty, with_sync, with_delay, with_state, with_slave, with_peer}
 use Rattle.rules.specs.Worked.{worked}
-use Rattle.rules.specs.Events.{Event, Done, Result, answered, refusal, sending, timed}
+use Rattle.rules.specs.Events.{Event, Done, answered, refusal, sending, timed}
 use Rattle.rules.specs.Measuring.{settle, sync_out, delay_out, peer_out}
 use Rattle.rules.specs.Rules.{sender_of, filtered, mean_given, update_given, state_set, state_of}
 use Rattle.rules.specs.Step.{rule_of, step}
-use Rattle.rules.specs.Actions.{is_empty, one_is, timers_first, packets_in, is_one_of, sending_of, packet_for}
+use Rattle.rules.specs.Actions.{packets_in, is_one_of, packet_for}
 use Rattle.rules.specs.AllLaws.{Silent, All}
 use Rattle.rules.proofs.AllLaws.{all_is}
 use Rattle.rules.proofs.RuleLaws.{all_settle}

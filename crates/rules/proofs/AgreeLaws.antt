@@ -1,7 +1,7 @@
 -- A rule beside the numbers that 01 has worked out for it: it refuses with 7 exactly where one of them leaves its range. One law for each kind of number; a rule is their chain.
 use Rattle.std.specs.Prelude.{◌≡◌, refl, Bool, true, false, cond, not, ◌||◌, List, [], ◌∷◌, ℤ, ◌-ℤ◌}
 use Rattle.std.proofs.Common.{sym, ◌∙◌, ap, subst}
-use Rattle.rules.specs.Names.{Time, Duration, TimeAnswer, DurationAnswer, MaybeDuration, Outcome}
+use Rattle.rules.specs.Names.{Time, Duration, TimeAnswer, DurationAnswer, MaybeDuration}
 use Rattle.time.specs.Units.{time_of, in_time, duration, duration_of, in_duration, half, half_of}
 use Rattle.time.specs.Laws.{IsTime, time_is, time_out_is, IsDuration, duration_is, duration_out_is, duration_back, half_is}
 use Rattle.rules.specs.Worked.{Worked, worked, refused, ◌then◌, a_time, a_duration, less_duration}

@@ -7,8 +7,8 @@ use Rattle.record.specs.Same.{same_identity}
 use Rattle.fitness.specs.Fit.{there, unanswered}
 use Rattle.rules.specs.Names.{Time, Header, Identity, MaybeTime, MaybeIdentity, PeerState, Port}
 use Rattle.rules.specs.Worked.{Worked}
-use Rattle.rules.specs.Exchanges.{Change, stays, becomes, awaited, with_response, responded, responded_later, peer_stamped}
-use Rattle.rules.specs.WorkedOut.{Completed, unfinished, peer, Sums, no_sums, held, hears, opened, sync_in, delay_in, send_in, receive_in, peer_opened, request_send_in, request_receive_in, response_send_in, response_receive_in, sync_sums, follow_up_sums, delay_resp_sums, delay_stamp_sums}
+use Rattle.rules.specs.Exchanges.{stays, becomes, awaited, with_response, responded, responded_later, peer_stamped}
+use Rattle.rules.specs.WorkedOut.{Completed, unfinished, peer, Sums, no_sums, held, hears, opened, sync_in, delay_in, send_in, receive_in, peer_opened, request_send_in, response_send_in, response_receive_in, sync_sums, follow_up_sums, delay_resp_sums, delay_stamp_sums}
 use Rattle.rules.specs.Changes.{is_peer}
 use Rattle.rules.specs.AllLaws.{All, Silent, peer_done}
 use Rattle.rules.proofs.AllLaws.{all_silent, all_awaited}

@@ -7,7 +7,6 @@ use Rattle.std.proofs.Math.Decide.{dec_lt}
 use Rattle.time.specs.Units.{time, signed}
 use Rattle.time.specs.Laws.{signed_low, signed_high}
 use Rattle.time.specs.Lemmas.Integers.{not_below, sub_lt}
-use Rattle.wire.specs.declared.MessageType.{MessageType}
 use Rattle.wire.specs.declared.MessageType.TheVariants as M
 use Rattle.octets.proofs.BytesLaws.{apart}
 use Rattle.wire.specs.Layout.{type_of, timestamp_of, rest_in, sdo_id, two_step, two_step_flag}
@@ -21,7 +20,7 @@ use Rattle.sent.specs.Messages.{header_for, zero_timestamp, correction_of, with_
 use Rattle.sent.proofs.SentLaws.{sdo_sent, carrying_is}
 use Rattle.rules.specs.Names.{Body, Time, WireTimestamp, Header, Identity, Message, MessageAnswer, Config}
 use Rattle.rules.specs.Rules.{sender_of}
-use Rattle.rules.specs.Sending.{Carries, no_time, left, came, Due, own_due, answer_due, is_followed, flags_in, interval_in, ns_in, correction_in, requester_in, Sends, Fulfils}
+use Rattle.rules.specs.Sending.{Carries, no_time, left, came, Due, own_due, answer_due, is_followed, flags_in, interval_in, requester_in, Sends, Fulfils}
 use Rattle.rules.specs.DueLaws.{Carrying, body_from}
 
 flag_read : (b : Bool) → eqb (cond b two_step_flag 0 / two_step_flag % 2) 1 ≡ b

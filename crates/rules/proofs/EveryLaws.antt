@@ -1,13 +1,10 @@
 -- A property of every ending of every rule holds of what any event comes to. `Heard` is for messages and stamps, `Every` for all events.
-use Rattle.std.specs.Prelude.{◌≡◌, refl, Bool, true, false, cond, List, [], ℕ}
-use Rattle.rules.specs.Names.{Time, Header, Identity, Body, Message, MessageAnswer, Exchange, SlaveState, PeerState, PortState, Port, Config, Context, Action, Outcome, Reading, FilterUpdate, NewState}
-use Rattle.sent.specs.Messages.{follow_up_of, delay_resp_of, p_delay_resp_of, p_delay_resp_follow_up_of}
+use Rattle.std.specs.Prelude.{◌≡◌, refl, Bool, true, false, cond, List, ℕ}
+use Rattle.rules.specs.Names.{Time, Header, Body, Port, Config, Context, Outcome, Reading}
 use Rattle.reading.specs.Reading.{read_of}
-use Rattle.record.specs.Record.{with_sync, with_delay, with_slave, with_peer}
 use Rattle.rules.specs.Worked.{Worked, refused}
-use Rattle.rules.specs.Events.{Event, event, general, stamp, sync_timer, delay_timer, filter_answer, set_state, Done, changed, sending}
-use Rattle.rules.specs.Measuring.{settle}
-use Rattle.rules.specs.Rules.{sender_of, becomes_faulty, on_event, on_general, stamped, filtered, state_set, sync_sent, delay_sent, peer_sent}
+use Rattle.rules.specs.Events.{Event, event, general, stamp, sync_timer, delay_timer, filter_answer, set_state, Done}
+use Rattle.rules.specs.Rules.{on_event, on_general, stamped}
 use Rattle.rules.specs.Table.{ours}
 use Rattle.rules.specs.Step.{viewed, rule_of}
 use Rattle.rules.specs.AllLaws.{Comes, Silent}

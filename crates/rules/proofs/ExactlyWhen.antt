@@ -1,5 +1,5 @@
 -- Demand 1, first part, row by row: what it takes for each number to be the answer. A row needs its own condition and the failure of all before it, and 0 the failure of all; nothing more is needed.
-use Rattle.std.specs.Prelude.{ℕ, ◌≡◌, refl, Bool, true, false, ◌&&◌, not, List, [], ◌∷◌, ◌++◌, ◌↔◌, eqb}
+use Rattle.std.specs.Prelude.{ℕ, ◌≡◌, refl, Bool, true, false, not, List, [], ◌∷◌, ◌++◌, ◌↔◌, eqb}
 use Rattle.std.proofs.Common.{sym, ◌∙◌, ap, true≢false, eq-eqb}
 use Rattle.std.proofs.lemmas.Bool.{false≢true}
 use Rattle.rules.specs.Names.{Port, Outcome}

@@ -1,16 +1,12 @@
 -- Worked examples on the whole port, each computed from the bytes of its messages: document 01's marked ones for Sync, Delay, ids and the timer, and what tells a rule from its slips. `ExamplesPeer` has the peer exchange, and the statement over the marked set.
-use Rattle.std.specs.Prelude.{ℕ, ◌-◌, ◌^◌, ◌≡◌, refl, true, false, List, [], ◌∷◌, pos}
+use Rattle.std.specs.Prelude.{◌-◌, ◌^◌, ◌≡◌, refl, true, false, [], ◌∷◌, pos}
 use Rattle.time.specs.Units.{time_words}
-use Rattle.wire.specs.Layout.{header_entries}
-use Rattle.octets.specs.Bytes.{bytes_of}
-use Rattle.sent.specs.Messages.{no_flag}
-use Rattle.record.specs.Record.{with_state, with_ids, with_slave, with_sync, slave_of}
-use Rattle.rules.specs.Names.{Time, Duration, Body, Identity, Mechanism, PortState, Exchange, MaybeDuration, MaybeNanoseconds, Ids, Port, Context, NewState, Action, Outcome, Measurement}
-use Rattle.rules.specs.Events.{Event, event, general, stamp, sync_timer, delay_timer, filter_answer, set_state}
+use Rattle.record.specs.Record.{with_state}
+use Rattle.rules.specs.Names.{Body, Mechanism, PortState, MaybeDuration, MaybeNanoseconds, Context, NewState, Action, Outcome, Measurement}
+use Rattle.rules.specs.Events.{event, general, stamp, sync_timer, delay_timer, filter_answer, set_state}
 use Rattle.rules.specs.Exchanges.{received, sent_at}
-use Rattle.rules.specs.Step.{step}
 use Rattle.rules.specs.Actions.{timers_first}
-use Rattle.rules.specs.Running.{run_of, lines, quiet, measures, refuses, left_by, todos, resets_in, ids_sent, us, master, stranger, ns, lasting, set_up, slave, message, wire_ns, two_step_sync_of, one_step_sync_of, follow_up_at, minus_one}
+use Rattle.rules.specs.Running.{run_of, lines, quiet, measures, refuses, left_by, resets_in, us, master, stranger, ns, lasting, set_up, slave, wire_ns, two_step_sync_of, one_step_sync_of, follow_up_at}
 use Rattle.rules.specs.Examples.{MeasuresSync, LeavesOpen, delay_resp_from, request_stamped, Asymmetric, ids_at, TakesLast, TimerIs, set_again, late, Refused, announce, too_late, unfit_port, outcome_in}
 
 pub sync_first : MeasuresSync (event (ns 1000) (two_step_sync_of 7) ∷ general (follow_up_at 7 900) ∷ [])

@@ -1,15 +1,11 @@
 -- Worked examples of the peer exchange on the whole port, each computed from the bytes of its messages.
-use Rattle.std.specs.Prelude.{ℕ, ◌+◌, ◌-◌, ◌*◌, ◌^◌, ◌≡◌, refl, true, false, List, [], ◌∷◌, ℤ, pos, negsuc}
-use Rattle.time.specs.Units.{time_words}
+use Rattle.std.specs.Prelude.{◌*◌, ◌^◌, ◌≡◌, refl, true, false, [], ◌∷◌, pos, negsuc}
 use Rattle.wire.specs.Layout.{two_step_flag}
 use Rattle.sent.specs.Messages.{no_flag}
-use Rattle.record.specs.Record.{state_number, with_state}
-use Rattle.rules.specs.Names.{Time, Identity, Body, Mechanism, PortState, Port, Context, Measurement}
-use Rattle.rules.specs.Events.{Event, event, general, stamp, sync_timer, delay_timer}
-use Rattle.rules.specs.Exchanges.{sent_at}
-use Rattle.rules.specs.Running.{run_of, lines, quiet, measures, left_by, resets_in, us, master, stranger, ns, in_units, lasting, set_up, slave, message, wire_ns, two_step_sync_of, one_step_sync_of, follow_up_at}
-use Rattle.rules.specs.Examples.{MeasuresSync, LeavesOpen, Asymmetric, ids_at, TakesLast, TimerIs}
-use Rattle.rules.proofs.Examples.{sync_first, follow_up_first, one_step_after, other_id, asymmetric, last_delay_id, last_peer_id, last_sync_id, middle_draw}
+use Rattle.record.specs.Record.{state_number}
+use Rattle.rules.specs.Names.{Measurement}
+use Rattle.rules.specs.Events.{event, general}
+use Rattle.rules.specs.Running.{run_of, lines, quiet, measures, left_by, resets_in, master, stranger, ns, in_units}
 use Rattle.rules.specs.ExamplesPeer.{asker, asked, answer, answer_follow_up, half_ns, MeasuresPeer, MeasuresOneStep, early, later, two_answers, recovering}
 
 -- E, and the same with the follow-up first

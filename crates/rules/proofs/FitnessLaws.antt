@@ -19,7 +19,7 @@ use Rattle.fitness.specs.FitLaws.{FitSync, FitDelay, FitState, FitPeer, IsFit}
 use Rattle.fitness.proofs.FitLaws.{fit_is, fit_when}
 use Rattle.rules.specs.Names.{Time, Header, Body, MaybeDuration, Exchange, SlaveState, PortState, PeerState, Port, Context, NewState, Outcome, Reading}
 use Rattle.rules.specs.Worked.{less_correction, plus_correction}
-use Rattle.rules.specs.Events.{Event, event, general, stamp, sync_timer, delay_timer, filter_answer, set_state, Done}
+use Rattle.rules.specs.Events.{Event, event, general, stamp, sync_timer, delay_timer, filter_answer, set_state}
 use Rattle.rules.specs.Measuring.{recovered, settle}
 use Rattle.rules.specs.Exchanges.{becomes, synced, followed_up, delay_answered, delay_stamped, peer_stamped, responded, responded_later}
 use Rattle.rules.specs.Rules.{on_event, on_general, stamped, filtered, mean_given, state_set, state_of}

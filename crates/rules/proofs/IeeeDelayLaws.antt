@@ -8,7 +8,7 @@ use Rattle.time.specs.Units.{time, duration, wire, correction, half}
 use Rattle.octets.proofs.BytesLaws.{apart}
 use Rattle.record.specs.Record.{as_slave, with_slave, with_sync, with_delay, with_raw, with_ids}
 use Rattle.record.proofs.SameLaws.{same_identity_lem, identity_self}
-use Rattle.rules.specs.Names.{Time, Duration, Header, Body, MaybeTime, MaybeDuration, Mechanism, Exchange, SlaveState, PortState, Port, Context, Measurement, MaybeMeasurement}
+use Rattle.rules.specs.Names.{Time, Duration, Header, Body, MaybeTime, MaybeDuration, Mechanism, Exchange, SlaveState, PortState, Port, Context}
 use Rattle.rules.specs.Worked.{Worked, worked, ◌then◌, less_correction}
 use Rattle.rules.specs.Events.{Event, stamp, delay_timer, Done, Result, answered, nothing, Brings}
 use Rattle.rules.specs.Measuring.{settle}

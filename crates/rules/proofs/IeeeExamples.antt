@@ -1,18 +1,17 @@
 -- Worked examples of the formulas of clause 11, and of the theorems over runs: the marked examples' numbers come out of the standard's definitions too, and runs of real bytes meet what the theorems ask.
-use Rattle.std.specs.Prelude.{ℕ, zero, suc, ◌*◌, ◌^◌, ◌≡◌, refl, Bool, true, ◌&&◌, List, [], ◌∷◌, ltb, ℤ, pos}
+use Rattle.std.specs.Prelude.{ℕ, zero, suc, ◌*◌, ◌^◌, ◌≡◌, refl, true, List, [], ◌∷◌, ltb, pos}
 use Rattle.std.proofs.Common.{lit<, ltb-true}
 use Rattle.time.specs.Units.{time, signed, wire, correction, half}
-use Rattle.wire.specs.declared.MessageType.{MessageType}
 use Rattle.wire.specs.declared.MessageType.TheVariants as M
 use Rattle.octets.specs.Bytes.{Bytes}
 use Rattle.octets.proofs.BytesLaws.{both}
 use Rattle.wire.specs.Layout.{two_step_flag}
-use Rattle.sent.specs.Messages.{header_for, no_flag, no_interval}
-use Rattle.record.specs.Record.{slave_of, port_of}
-use Rattle.rules.specs.Names.{Identity, Header, Body, Mechanism, Port, Context}
-use Rattle.rules.specs.Events.{event, general, stamp, delay_timer, Result}
+use Rattle.sent.specs.Messages.{no_flag}
+use Rattle.record.specs.Record.{slave_of}
+use Rattle.rules.specs.Names.{Header, Context}
+use Rattle.rules.specs.Events.{event, general, stamp, delay_timer}
 use Rattle.rules.specs.Step.{step}
-use Rattle.rules.specs.Ieee.{WireFields, Syncs, Pdelays, offset_from_master, mean_path_delay, mean_link_delay}
+use Rattle.rules.specs.Ieee.{Syncs, Pdelays, offset_from_master, mean_path_delay, mean_link_delay}
 use Rattle.rules.specs.IeeeLaws.{MeasuresOffset, wire_fields}
 use Rattle.rules.proofs.IeeeLaws.{two_step_offset}
 use Rattle.rules.specs.IeeePeerLaws.{MeasuresLinkDelay, requesting}
@@ -21,7 +20,7 @@ use Rattle.rules.specs.IeeeDelayLaws.{MeasuresPathDelay}
 use Rattle.rules.proofs.IeeeDelayLaws.{path_delay_after_sync}
 use Rattle.rules.specs.ResponderLaws.{MeasuresWay, way_of}
 use Rattle.rules.proofs.ResponderLaws.{link_measured}
-use Rattle.rules.specs.Running.{run_of, us, master, ns, lasting, set_up, slave, speaker, message, wire_ns, two_step_sync_of, follow_up_at}
+use Rattle.rules.specs.Running.{run_of, us, master, ns, slave, wire_ns, two_step_sync_of, follow_up_at}
 use Rattle.rules.specs.IeeeExamples.{fields, nano, said, synced, delay_resp, answer, answer_follow_up, asker, small, responder, request, response, response_follow_up, asked_at}
 
 -- A, and with an asymmetry of 10, a mean delay of 30, corrections of 3 and 5

@@ -7,9 +7,9 @@ use Rattle.time.specs.declared.WireTimestamp.{WireTimestamp}
 use Rattle.time.specs.Units.{time, duration, wire, correction}
 use Rattle.wire.specs.Layout as Layout
 use Rattle.reading.specs.Reading.{read_of}
-use Rattle.record.specs.Record.{with_slave, with_sync, with_raw}
+use Rattle.record.specs.Record.{with_slave, with_sync}
 use Rattle.record.proofs.SameLaws.{same_identity_lem}
-use Rattle.rules.specs.Names.{Time, Duration, Header, Body, Reading, MaybeDuration, Exchange, SlaveState, PortState, Port, Outcome, Measurement, MaybeMeasurement}
+use Rattle.rules.specs.Names.{Time, Duration, Header, Body, Reading, MaybeDuration, Exchange, SlaveState, PortState, Port, Outcome}
 use Rattle.rules.specs.Worked.{worked, ◌then◌, less_correction, plus_correction}
 use Rattle.rules.specs.Events.{Event, event, Done, Result, answered, nothing, Brings}
 use Rattle.rules.specs.Exchanges.{becomes, received, sent_at, at_once, synced, two_step_sync, one_step_sync, followed_up}
@@ -21,7 +21,7 @@ use Rattle.rules.proofs.AgreeLaws.{agrees_all}
 use Rattle.rules.specs.AllLaws.{All}
 use Rattle.rules.proofs.MeasureLaws.{sync_agrees}
 use Rattle.rules.specs.LinearLaws.{num, ◌⊕◌, ◌⊖◌, over_zero, under_zero, equal_sums}
-use Rattle.rules.specs.Ieee.{WireFields, Syncs, origin_timestamp, sync_message, follow_up_correction, offset_from_master}
+use Rattle.rules.specs.Ieee.{Syncs, origin_timestamp, sync_message, follow_up_correction, offset_from_master}
 use Rattle.rules.proofs.TakenLaws.{event_rule, brought_rule, wire-time, brought_time}
 use Rattle.rules.specs.RunLaws.{BothOrders, Turns}
 use Rattle.rules.proofs.RunLaws.{turns, sync_part, less_worth, plus_worth, after_two}

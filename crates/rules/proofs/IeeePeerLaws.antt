@@ -6,13 +6,12 @@ use Rattle.time.specs.Units.{time, duration, wire, correction, half}
 use Rattle.wire.specs.Layout as Layout
 use Rattle.reading.specs.Reading.{read_of}
 use Rattle.octets.proofs.BytesLaws.{apart}
-use Rattle.record.specs.Record.{with_state, with_peer, with_ids}
-use Rattle.rules.specs.Names.{Time, Duration, Identity, Header, Body, Reading, MaybeTime, MaybeIdentity, Mechanism, PeerState, Port, Context, Measurement, MaybeMeasurement}
+use Rattle.record.specs.Record.{with_peer}
+use Rattle.rules.specs.Names.{Time, Identity, Header, Body, Reading, MaybeTime, MaybeIdentity, Mechanism, PeerState, Port, Context}
 use Rattle.rules.specs.Worked.{worked}
 use Rattle.rules.specs.Events.{Event, event, stamp, delay_timer, Result, answered, Brings}
-use Rattle.rules.specs.Measuring.{recovered, peer_out}
+use Rattle.rules.specs.Measuring.{peer_out}
 use Rattle.rules.specs.Exchanges.{peer_requested}
-use Rattle.rules.specs.Rules.{peer_id_taken}
 use Rattle.rules.specs.Step.{rule_of, step}
 use Rattle.rules.specs.AllLaws.{All, Silent}
 use Rattle.rules.proofs.RuleLaws.{all_delay_timer_ends}

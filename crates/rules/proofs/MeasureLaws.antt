@@ -1,15 +1,15 @@
 -- Each measurement beside 01's formula: refused with 7 exactly where a number of the formula leaves its range, and otherwise what the formula says.
-use Rattle.std.specs.Prelude.{ℕ, ◌≡◌, true, false, [], ◌∷◌, ◌++◌, ◌-ℤ◌}
+use Rattle.std.specs.Prelude.{ℕ, ◌≡◌, true, false, [], ◌∷◌, ◌-ℤ◌}
 use Rattle.std.proofs.Math.Path.{refl}
 use Rattle.std.proofs.Common.{ap}
 use Rattle.std.proofs.Math.IntN.{ℤ}
 use Rattle.rules.specs.Names.{Time, Duration, Identity, MaybeDuration, Exchange, SlaveState, PeerState, Port, Measurement}
 use Rattle.time.specs.Units.{time, duration, half, half_of}
 use Rattle.record.specs.Record.{with_slave, with_sync, with_delay, with_peer, is_faulty}
-use Rattle.rules.specs.Worked.{Worked, worked, elapsed, less_duration}
+use Rattle.rules.specs.Worked.{worked, elapsed, less_duration}
 use Rattle.rules.specs.Events.{Done}
 use Rattle.rules.specs.Measuring.{measure_sync, measure_delay, measure_peer, measured, sync_out, delay_out, peer_out}
-use Rattle.rules.specs.WorkedOut.{Completed, Sums, sync, delay, peer, raw_sync, raw_delay, peer_twice, peer_opened, numbers_of, asymmetry, durations, ◌∋◌, if_there}
+use Rattle.rules.specs.WorkedOut.{Completed, sync, delay, peer, raw_sync, raw_delay, peer_twice, peer_opened, numbers_of, asymmetry, durations, ◌∋◌, if_there}
 use Rattle.rules.specs.Formulas.{Says, GivenBy}
 use Rattle.rules.specs.AgreeLaws.{Agrees}
 use Rattle.rules.proofs.AgreeLaws.{agrees_duration, agrees_mean, agrees_half, half_means}

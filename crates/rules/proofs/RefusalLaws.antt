@@ -1,9 +1,9 @@
 -- A refusal changes nothing; and what it is to be taken: no row refuses, and the event's rule gives what is answered.
-use Rattle.std.specs.Prelude.{◌≡◌, Bool, true, false, [], ℕ}
+use Rattle.std.specs.Prelude.{◌≡◌, Bool, true, false, ℕ}
 use Rattle.std.proofs.Math.Path.{refl}
 use Rattle.std.proofs.Common.{sym, ap, ◌∙◌, subst}
 use Rattle.octets.proofs.BytesLaws.{apart}
-use Rattle.rules.specs.Names.{Port, MaybeMeasurement, Outcome}
+use Rattle.rules.specs.Names.{Port, Outcome}
 use Rattle.fitness.specs.Fit.{unfit}
 use Rattle.rules.specs.Worked.{Worked, worked, refused}
 use Rattle.rules.specs.Events.{Event, Done, Result, answered, refusal}

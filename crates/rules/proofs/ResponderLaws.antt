@@ -4,7 +4,7 @@ use Rattle.std.proofs.Math.Path.{refl}
 use Rattle.std.proofs.Common.{sym, ap, ◌∙◌, subst, arith}
 use Rattle.std.proofs.Math.Bool.{true}
 use Rattle.time.specs.declared.WireTimestamp.{WireTimestamp}
-use Rattle.time.specs.Units.{time, time_words, duration, wire, correction, half}
+use Rattle.time.specs.Units.{time, time_words, wire, correction, half}
 use Rattle.wire.specs.declared.MessageType.TheVariants as M
 use Rattle.wire.specs.Layout.{message_bytes, two_step_flag, two_step, timestamp_of}
 use Rattle.wire.specs.LayoutLaws.{InWidths, HeaderWidths}
@@ -23,7 +23,7 @@ use Rattle.record.specs.Record.{with_peer}
 use Rattle.fitness.specs.Fit.{unfit}
 use Rattle.fitness.specs.FitLaws.{FitConfig}
 use Rattle.fitness.proofs.FitLaws.{fit_is, config_is}
-use Rattle.rules.specs.Names.{Time, Duration, Identity, Header, Body, Sender, Message, MessageAnswer, Reading, MaybeTime, MaybeIdentity, PeerState, Port, Context, Measurement, MaybeMeasurement}
+use Rattle.rules.specs.Names.{Time, Identity, Header, Body, Sender, Message, MessageAnswer, Reading, MaybeTime, MaybeIdentity, PeerState, Port, Context}
 use Rattle.rules.specs.Worked.{worked}
 use Rattle.rules.specs.Events.{event, general, stamp, Done, Result, answered}
 use Rattle.rules.specs.Rules.{sender_of, on_event}

@@ -8,7 +8,7 @@ use Rattle.timers.specs.Timers.{sync_timer_of, delay_timer_of}
 use Rattle.sent.specs.Messages.{follow_up_of, delay_resp_of, p_delay_resp_of, p_delay_resp_follow_up_of}
 use Rattle.record.specs.Record.{is_master, is_faulty, is_slave, with_sync, with_delay, with_slave, with_peer}
 use Rattle.record.specs.Same.{same_identity}
-use Rattle.rules.specs.Worked.{Worked, worked, ◌then◌, less_correction, plus_correction, elapsed, less_duration}
+use Rattle.rules.specs.Worked.{Worked, worked, less_correction, plus_correction, elapsed, less_duration}
 use Rattle.rules.specs.Events.{Done, nothing, changed, sending}
 use Rattle.rules.specs.Measuring.{measured, sync_out, delay_out, peer_out, less_mean, half_below, measure_sync, measure_delay, measure_peer, settle}
 use Rattle.rules.specs.Exchanges.{Change, stays, becomes, synced, followed_up, delay_answered, delay_stamped, peer_stamped, second_responder, awaited, with_response, responded, responded_later}

@@ -1,12 +1,12 @@
 -- Runs of events that are all Taken, over one of a port's exchanges: each event turns it into another by a time that it brings, until one is complete and what that measures is answered.
-use Rattle.std.specs.Prelude.{ℕ, ◌≡◌, false, ℤ, ◌+ℤ◌, ◌-ℤ◌}
+use Rattle.std.specs.Prelude.{ℕ, ◌≡◌, ℤ, ◌+ℤ◌, ◌-ℤ◌}
 use Rattle.std.proofs.Common.{sym, subst}
 use Rattle.time.specs.Units.{time, correction}
 use Rattle.time.specs.Laws.{IsTime}
 use Rattle.octets.proofs.BytesLaws.{neither}
 use Rattle.record.specs.Record.{with_slave, with_sync, with_delay, with_peer}
-use Rattle.fitness.specs.Fit.{full, unfit}
-use Rattle.rules.specs.Names.{Time, Header, Exchange, SlaveState, PeerState, Port, Outcome}
+use Rattle.fitness.specs.Fit.{full}
+use Rattle.rules.specs.Names.{Time, Header, Exchange, SlaveState, PeerState, Port}
 use Rattle.rules.specs.Worked.{Worked, worked, ◌then◌, less_correction, plus_correction}
 use Rattle.rules.specs.Events.{Event, Done, Result, answered, nothing}
 use Rattle.rules.specs.Measuring.{complete, peer_complete, measure_sync, measure_delay, measure_peer, settle}

@@ -13,7 +13,7 @@ use Rattle.fitness.specs.FitLaws.{IsFit}
 use Rattle.fitness.proofs.FitLaws.{fit_is}
 use Rattle.rules.specs.Names.{Time, Header, Identity, Body, MaybeDuration, Exchange, SlaveState, PortState, PeerState, Port, Context, NewState, Outcome, Reading}
 use Rattle.rules.specs.Worked.{Worked, worked, refused, less_correction, plus_correction}
-use Rattle.rules.specs.Events.{Event, event, general, stamp, sync_timer, delay_timer, filter_answer, set_state, Done, Result, answered, changed}
+use Rattle.rules.specs.Events.{Event, event, general, stamp, sync_timer, delay_timer, filter_answer, set_state, Done, answered, changed}
 use Rattle.rules.specs.Measuring.{recovered, settle, measured, peer_out}
 use Rattle.rules.specs.Exchanges.{Change, stays, becomes, second_responder, responded, responded_later, peer_stamped}
 use Rattle.rules.specs.Rules.{sync, follow_up, delay_resp, delay_req, p_delay_req, peer_answer, p_delay_resp, p_delay_resp_follow_up, on_event, on_general, stamped, filtered, mean_given, state_set, state_of}

@@ -4,8 +4,8 @@ use Rattle.std.proofs.Common.{sym, ap, ◌∙◌, subst, true≢false}
 use Rattle.time.specs.Units.{time, in_time, time_of, correction}
 use Rattle.time.specs.Laws.{IsTime, time_is}
 use Rattle.wire.specs.Layout.{two_step}
-use Rattle.fitness.specs.Fit.{there, full, unanswered, peer_full}
-use Rattle.fitness.specs.FitLaws.{FitTime, FitSync, FitDelay, FitPeer}
+use Rattle.fitness.specs.Fit.{there, unanswered, peer_full}
+use Rattle.fitness.specs.FitLaws.{FitTime, FitPeer}
 use Rattle.fitness.proofs.FitLaws.{peer_times_is, peer_times_when}
 use Rattle.rules.specs.Names.{TimeAnswer, Time, Header, Identity, MaybeTime, MaybeIdentity, Exchange, PeerState}
 use Rattle.rules.specs.Worked.{Worked, a_time, less_correction, plus_correction}

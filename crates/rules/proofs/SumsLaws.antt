@@ -1,5 +1,5 @@
 -- Every rule beside what 01 has worked out for its event: on a record that is fit it refuses with 7 exactly where a number leaves its range, with nothing else, and otherwise measures exactly what the event completes.
-use Rattle.std.specs.Prelude.{ℕ, ◌≡◌, refl, Bool, true, false, cond, ◌&&◌, ◌||◌, ◌++◌, ℤ, ◌+ℤ◌, ◌-ℤ◌}
+use Rattle.std.specs.Prelude.{ℕ, ◌≡◌, refl, Bool, true, false, cond, ◌&&◌, ◌||◌, ◌++◌, ◌+ℤ◌, ◌-ℤ◌}
 use Rattle.rules.specs.Names.{Time, Identity, Header, Body, PortState, Context, Port}
 use Rattle.time.specs.Units.{time, correction}
 use Rattle.octets.proofs.BytesLaws.{neither}

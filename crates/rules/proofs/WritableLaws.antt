@@ -1,15 +1,13 @@
 -- Every message that a taken event has sent can be written: a buffer of 64 bytes or more, the least that row 1 lets pass, takes it whole.
-use Rattle.std.specs.Prelude.{ℕ, ◌≤◌, ◌<◌, ◌≡◌, false, length}
+use Rattle.std.specs.Prelude.{ℕ, ◌≤◌, ◌<◌, ◌≡◌, false}
 use Rattle.std.proofs.Math.Path.{refl}
 use Rattle.std.proofs.Common.{sym, ap, ◌∙◌, subst, arith, lit≤}
 use Rattle.std.proofs.Math.Option.{Option, none, some}
-use Rattle.wire.specs.Layout.{message_bytes}
 use Rattle.wire.specs.LayoutLaws.{HeaderWidths}
 use Rattle.wire.proofs.LayoutLaws.{header_widths}
 use Rattle.reading.specs.Reading.{read_of}
 use Rattle.reading.specs.ReadingLaws.{message_is}
 use Rattle.writing.specs.declared.Written.TheVariants as W
-use Rattle.writing.specs.Writing.{write_of}
 use Rattle.sent.specs.SentLaws.{InLimits, Sendable}
 use Rattle.sent.proofs.SentLaws.{sync_sends, delay_req_sends, pdelay_req_sends, follow_up_sends, delay_resp_sends, pdelay_resp_sends, pdelay_resp_follow_up_sends}
 use Rattle.fitness.specs.Fit.{unfit}

@@ -1,15 +1,8 @@
 -- What the laws of proofs/AllLaws.antt speak of.
-use Rattle.std.specs.Prelude.{◌≡◌, refl, Bool, true, false, cond, ◌&&◌, not, ℕ, ◌+ℤ◌, ◌-ℤ◌}
-use Rattle.std.proofs.Common.{subst}
-use Rattle.time.specs.Units.{time, time_of, duration, duration_of, correction}
-use Rattle.rules.specs.Names.{TimeAnswer, DurationAnswer, TimerAnswer, MessageAnswer, Message, Time, Duration, Header, Identity, MaybeTime, MaybeIdentity, Exchange, SlaveState, PortState, PeerState, Port, Outcome}
-use Rattle.record.specs.Record.{as_slave, is_slave}
-use Rattle.fitness.specs.Fit.{there, full}
-use Rattle.rules.specs.Worked.{Worked, worked, refused, ◌then◌, a_time, a_duration, a_message, a_timer, less_correction, plus_correction, elapsed, less_duration}
-use Rattle.rules.specs.Events.{Done, changed}
-use Rattle.rules.specs.Measuring.{complete, peer_complete, settle}
-use Rattle.rules.specs.Exchanges.{Change, stays, becomes, awaited}
-use Rattle.rules.specs.Rules.{keeping}
+use Rattle.std.specs.Prelude.{Bool, true, false}
+use Rattle.rules.specs.Names.{PeerState, Outcome}
+use Rattle.rules.specs.Worked.{Worked, worked, refused}
+use Rattle.rules.specs.Measuring.{peer_complete}
 
 -- what is worked out has P, and what refuses has R
 abbrev pub Comes : {A : Type 0} → (A → Type 0) → (Outcome → Type 0) → Worked A → Type 0

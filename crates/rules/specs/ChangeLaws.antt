@@ -1,18 +1,10 @@
 -- What the laws of proofs/ChangeLaws.antt speak of.
-use Rattle.std.specs.Prelude.{◌≡◌, refl, Bool, true, false, cond, [], ℕ}
-use Rattle.std.proofs.Common.{sym, ap, ◌∙◌}
-use Rattle.record.specs.Ids.{id_after}
-use Rattle.record.specs.Record.{is_master, is_slave, with_sync, with_delay, with_slave, with_peer, with_state, slave_of}
-use Rattle.rules.specs.Names.{Identity, MaybeDuration, MaybeMeasurement, Exchange, SlaveState, PortState, Port, NewState, Outcome}
-use Rattle.rules.specs.Worked.{worked}
-use Rattle.rules.specs.Events.{Event, event, general, stamp, sync_timer, delay_timer, filter_answer, set_state, Done, Result, answered}
-use Rattle.rules.specs.Measuring.{settle, sync_out, delay_out, peer_out}
-use Rattle.rules.specs.Rules.{filtered, mean_given, state_set, state_of}
+use Rattle.std.specs.Prelude.{◌≡◌, []}
+use Rattle.rules.specs.Names.{Identity, MaybeDuration, MaybeMeasurement, Exchange, SlaveState, PortState, Port, NewState}
+use Rattle.rules.specs.Events.{Event, Result}
+use Rattle.rules.specs.Rules.{state_of}
 use Rattle.rules.specs.WorkedOut.{sync_in, delay_in, last_raw}
-use Rattle.rules.specs.Changes.{request_ids, ids_after, last_given, mean_after}
-use Rattle.rules.specs.Step.{rule_of, step}
-use Rattle.rules.specs.AllLaws.{All, Silent}
-use Rattle.rules.specs.EveryLaws.{Heard}
+use Rattle.rules.specs.Changes.{ids_after, mean_after}
 
 -- ---- configuration, ids and mean delay
 

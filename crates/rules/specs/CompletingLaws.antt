@@ -1,16 +1,10 @@
 -- What the laws of proofs/CompletingLaws.antt speak of.
-use Rattle.std.specs.Prelude.{◌≡◌, refl, Bool, true, false, cond, ◌&&◌, not, ℕ, eqb, ℤ}
-use Rattle.std.proofs.Common.{sym, ap, ◌∙◌, true≢false}
+use Rattle.std.specs.Prelude.{Bool, false, cond, ℤ}
 use Rattle.wire.specs.Layout.{two_step}
-use Rattle.time.specs.Units.{time}
-use Rattle.record.specs.Same.{same_identity}
-use Rattle.fitness.specs.Fit.{there, unanswered}
-use Rattle.rules.specs.Names.{Time, Header, Identity, MaybeTime, MaybeIdentity, PeerState, Port}
-use Rattle.rules.specs.Worked.{Worked}
-use Rattle.rules.specs.Exchanges.{Change, stays, becomes, awaited, with_response, responded, responded_later, peer_stamped}
-use Rattle.rules.specs.WorkedOut.{Completed, unfinished, peer, Sums, no_sums, held, hears, opened, sync_in, delay_in, send_in, receive_in, peer_opened, request_send_in, request_receive_in, response_send_in, response_receive_in, sync_sums, follow_up_sums, delay_resp_sums, delay_stamp_sums}
-use Rattle.rules.specs.Changes.{is_peer}
-use Rattle.rules.specs.AllLaws.{All, Silent, peer_done}
+use Rattle.rules.specs.Names.{Header, PeerState}
+use Rattle.rules.specs.Exchanges.{Change, stays, becomes}
+use Rattle.rules.specs.WorkedOut.{Completed, peer, held, request_send_in, request_receive_in, response_send_in, response_receive_in}
+use Rattle.rules.specs.AllLaws.{peer_done}
 
 -- ---- what a change completes
 

@@ -1,16 +1,12 @@
 -- What the laws of proofs/ExactlyWhen.antt speak of.
-use Rattle.std.specs.Prelude.{ℕ, ◌≡◌, refl, Bool, true, false, ◌&&◌, not, List, [], ◌∷◌, ◌++◌, ◌↔◌, eqb}
-use Rattle.std.proofs.Common.{sym, ◌∙◌, ap, true≢false, eq-eqb}
-use Rattle.std.proofs.lemmas.Bool.{false≢true}
+use Rattle.std.specs.Prelude.{ℕ, ◌≡◌, Bool, true, false, ◌&&◌, not, List, [], ◌∷◌, ◌↔◌, eqb}
 use Rattle.rules.specs.Names.{Port, Outcome}
-use Rattle.octets.proofs.BytesLaws.{both}
 use Rattle.fitness.specs.Fit.{unfit}
 use Rattle.record.specs.Answers.{number_of}
 use Rattle.rules.specs.Events.{Event}
-use Rattle.rules.specs.Table.{row1, row3, row4, row5, row6, row8, table, first_hit}
+use Rattle.rules.specs.Table.{row1, row3, row4, row5, row6, row8}
 use Rattle.rules.specs.WorkedOut.{row7}
 use Rattle.rules.specs.Step.{step}
-use Rattle.rules.specs.Given.{BytesIn}
 
 -- none of these conditions holds
 abbrev pub NoneOf : List Bool → Type 0

@@ -1,16 +1,15 @@
 -- What the laws of proofs/Examples.antt speak of.
-use Rattle.std.specs.Prelude.{ℕ, ◌-◌, ◌^◌, ◌≡◌, refl, true, false, List, [], ◌∷◌, pos}
+use Rattle.std.specs.Prelude.{ℕ, ◌^◌, ◌≡◌, false, List, [], ◌∷◌, pos}
 use Rattle.time.specs.Units.{time_words}
 use Rattle.wire.specs.Layout.{header_entries}
 use Rattle.octets.specs.Bytes.{bytes_of}
 use Rattle.sent.specs.Messages.{no_flag}
-use Rattle.record.specs.Record.{with_state, with_ids, with_slave, with_sync, slave_of}
-use Rattle.rules.specs.Names.{Time, Duration, Body, Identity, Mechanism, PortState, Exchange, MaybeDuration, MaybeNanoseconds, Ids, Port, Context, NewState, Action, Outcome, Measurement}
-use Rattle.rules.specs.Events.{Event, event, general, stamp, sync_timer, delay_timer, filter_answer, set_state}
-use Rattle.rules.specs.Exchanges.{received, sent_at}
+use Rattle.record.specs.Record.{with_ids, with_slave, with_sync, slave_of}
+use Rattle.rules.specs.Names.{Time, Duration, Body, Identity, Exchange, MaybeDuration, Ids, Port, Context, NewState, Action, Outcome, Measurement}
+use Rattle.rules.specs.Events.{Event, event, general, stamp, delay_timer, set_state}
+use Rattle.rules.specs.Exchanges.{received}
 use Rattle.rules.specs.Step.{step}
-use Rattle.rules.specs.Actions.{timers_first}
-use Rattle.rules.specs.Running.{run_of, lines, quiet, measures, refuses, left_by, todos, resets_in, ids_sent, us, master, stranger, ns, lasting, set_up, slave, message, wire_ns, two_step_sync_of, one_step_sync_of, follow_up_at, minus_one}
+use Rattle.rules.specs.Running.{run_of, lines, quiet, measures, refuses, left_by, todos, ids_sent, us, master, ns, lasting, slave, message, wire_ns, two_step_sync_of, one_step_sync_of, minus_one}
 
 -- ---- the marked ones
 

@@ -1,14 +1,11 @@
 -- What the laws of proofs/ExamplesPeer.antt speak of.
-use Rattle.std.specs.Prelude.{ℕ, ◌+◌, ◌-◌, ◌*◌, ◌^◌, ◌≡◌, refl, true, false, List, [], ◌∷◌, ℤ, pos, negsuc}
+use Rattle.std.specs.Prelude.{ℕ, ◌+◌, ◌-◌, ◌*◌, ◌^◌, ◌≡◌, List, [], ◌∷◌, ℤ, pos}
 use Rattle.time.specs.Units.{time_words}
 use Rattle.wire.specs.Layout.{two_step_flag}
 use Rattle.sent.specs.Messages.{no_flag}
-use Rattle.record.specs.Record.{state_number, with_state}
-use Rattle.rules.specs.Names.{Time, Identity, Body, Mechanism, PortState, Port, Context, Measurement}
-use Rattle.rules.specs.Events.{Event, event, general, stamp, sync_timer, delay_timer}
-use Rattle.rules.specs.Exchanges.{sent_at}
-use Rattle.rules.specs.Running.{run_of, lines, quiet, measures, left_by, resets_in, us, master, stranger, ns, in_units, lasting, set_up, slave, message, wire_ns, two_step_sync_of, one_step_sync_of, follow_up_at}
-use Rattle.rules.specs.Examples.{MeasuresSync, LeavesOpen, Asymmetric, ids_at, TakesLast, TimerIs}
+use Rattle.rules.specs.Names.{Time, Identity, Body, Mechanism, Port, Context, Measurement}
+use Rattle.rules.specs.Events.{Event, event, general, stamp, delay_timer}
+use Rattle.rules.specs.Running.{run_of, lines, quiet, measures, us, master, stranger, ns, in_units, set_up, message, wire_ns}
 
 -- ---- a request of id 0, stamped at 1,000 ns, and what may answer it
 

@@ -1,23 +1,15 @@
 -- What the laws of proofs/IeeeExamples.antt speak of.
-use Rattle.std.specs.Prelude.{ℕ, zero, suc, ◌*◌, ◌^◌, ◌≡◌, refl, Bool, true, ◌&&◌, List, [], ◌∷◌, ltb, ℤ, pos}
-use Rattle.std.proofs.Common.{lit<, ltb-true}
-use Rattle.time.specs.Units.{time, signed, wire, correction, half}
+use Rattle.std.specs.Prelude.{ℕ, ◌*◌, ◌^◌, Bool, true, ◌&&◌, List, [], ◌∷◌, ltb, ℤ, pos}
+use Rattle.time.specs.Units.{correction}
 use Rattle.wire.specs.declared.MessageType.{MessageType}
-use Rattle.wire.specs.declared.MessageType.TheVariants as M
-use Rattle.octets.specs.Bytes.{Bytes}
-use Rattle.octets.proofs.BytesLaws.{both}
 use Rattle.wire.specs.Layout.{two_step_flag}
 use Rattle.sent.specs.Messages.{header_for, no_flag, no_interval}
-use Rattle.record.specs.Record.{slave_of, port_of}
+use Rattle.record.specs.Record.{port_of}
 use Rattle.rules.specs.Names.{Identity, Header, Body, Mechanism, Port, Context}
 use Rattle.rules.specs.Events.{event, general, stamp, delay_timer, Result}
 use Rattle.rules.specs.Step.{step}
-use Rattle.rules.specs.Ieee.{WireFields, Syncs, Pdelays, offset_from_master, mean_path_delay, mean_link_delay}
-use Rattle.rules.specs.IeeeLaws.{MeasuresOffset, wire_fields}
-use Rattle.rules.specs.IeeePeerLaws.{MeasuresLinkDelay, requesting}
-use Rattle.rules.specs.IeeeDelayLaws.{MeasuresPathDelay}
-use Rattle.rules.specs.ResponderLaws.{MeasuresWay, way_of}
-use Rattle.rules.specs.Running.{run_of, us, master, ns, lasting, set_up, slave, speaker, message, wire_ns, two_step_sync_of, follow_up_at}
+use Rattle.rules.specs.Ieee.{WireFields}
+use Rattle.rules.specs.Running.{us, master, ns, lasting, set_up, slave, speaker, message, wire_ns, two_step_sync_of, follow_up_at}
 
 -- ---- the formulas: timestamps and corrections in nanoseconds
 

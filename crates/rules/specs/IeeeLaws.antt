@@ -1,26 +1,11 @@
 -- What the laws of proofs/IeeeLaws.antt speak of.
-use Rattle.std.specs.Prelude.{ℕ, ◌≡◌, refl, true, false, List, ℤ, pos, ◌+ℤ◌, ◌-ℤ◌}
-use Rattle.std.proofs.Common.{sym, ◌∙◌, arith, eq-eqb}
-use Rattle.std.proofs.Math.Path.{ap, subst}
-use Rattle.std.proofs.Math.Bool.{cond}
+use Rattle.std.specs.Prelude.{◌≡◌, ℤ, pos, ◌-ℤ◌}
 use Rattle.time.specs.declared.WireTimestamp.{WireTimestamp}
-use Rattle.time.specs.Units.{time, duration, wire, correction}
-use Rattle.wire.specs.Layout as Layout
-use Rattle.reading.specs.Reading.{read_of}
+use Rattle.time.specs.Units.{time, duration, correction}
 use Rattle.record.specs.Record.{with_slave, with_sync, with_raw}
-use Rattle.record.proofs.SameLaws.{same_identity_lem}
-use Rattle.rules.specs.Names.{Time, Duration, Header, Body, Reading, MaybeDuration, Exchange, SlaveState, PortState, Port, Outcome, Measurement, MaybeMeasurement}
-use Rattle.rules.specs.Worked.{worked, ◌then◌, less_correction, plus_correction}
-use Rattle.rules.specs.Events.{Event, event, Done, Result, answered, nothing, Brings}
-use Rattle.rules.specs.Exchanges.{becomes, received, sent_at, at_once, synced, two_step_sync, one_step_sync, followed_up}
-use Rattle.rules.specs.Rules.{sync, follow_up, keeping, on_event, on_general}
-use Rattle.rules.specs.Step.{step}
-use Rattle.rules.specs.WorkedOut.{Completed, numbers_of}
-use Rattle.rules.specs.Formulas.{GivenBy}
-use Rattle.rules.specs.AllLaws.{All}
-use Rattle.rules.specs.LinearLaws.{num, ◌⊕◌, ◌⊖◌, over_zero, under_zero, equal_sums}
-use Rattle.rules.specs.Ieee.{WireFields, Syncs, origin_timestamp, sync_message, follow_up_correction, offset_from_master}
-use Rattle.rules.specs.RunLaws.{BothOrders, Turns}
+use Rattle.rules.specs.Names.{Time, Duration, Header, MaybeDuration, Exchange, SlaveState, Port, Measurement, MaybeMeasurement}
+use Rattle.rules.specs.Events.{Result}
+use Rattle.rules.specs.Ieee.{WireFields, Syncs, sync_message, offset_from_master}
 
 -- ---- what is measured: the raw offset is <offsetFromMaster> with no mean delay, and the offset that with the one that is stored
 

@@ -1,24 +1,12 @@
 -- What the laws of proofs/IeeePeerLaws.antt speak of.
-use Rattle.std.specs.Prelude.{ℕ, ◌≡◌, refl, true, false, List, ℤ, ◌+ℤ◌, ◌-ℤ◌}
-use Rattle.std.proofs.Common.{sym, ap, ◌∙◌, subst, arith}
-use Rattle.time.specs.declared.WireTimestamp.{WireTimestamp}
-use Rattle.time.specs.Units.{time, duration, wire, correction, half}
-use Rattle.wire.specs.Layout as Layout
-use Rattle.reading.specs.Reading.{read_of}
-use Rattle.octets.proofs.BytesLaws.{apart}
+use Rattle.std.specs.Prelude.{ℕ, ◌≡◌, ℤ, ◌-ℤ◌}
+use Rattle.time.specs.Units.{time, duration, correction}
 use Rattle.record.specs.Record.{with_state, with_peer, with_ids}
-use Rattle.rules.specs.Names.{Time, Duration, Identity, Header, Body, Reading, MaybeTime, MaybeIdentity, Mechanism, PeerState, Port, Context, Measurement, MaybeMeasurement}
-use Rattle.rules.specs.Worked.{worked}
-use Rattle.rules.specs.Events.{Event, event, stamp, delay_timer, Result, answered, Brings}
-use Rattle.rules.specs.Measuring.{recovered, peer_out}
-use Rattle.rules.specs.Exchanges.{peer_requested}
+use Rattle.rules.specs.Names.{Time, Duration, Identity, PeerState, Port, Measurement, MaybeMeasurement}
+use Rattle.rules.specs.Events.{Result}
+use Rattle.rules.specs.Measuring.{recovered}
 use Rattle.rules.specs.Rules.{peer_id_taken}
-use Rattle.rules.specs.Step.{rule_of, step}
-use Rattle.rules.specs.AllLaws.{All, Silent}
-use Rattle.rules.specs.LinearLaws.{num, ◌⊕◌, ◌⊖◌, equal_sums}
 use Rattle.rules.specs.Ieee.{WireFields, Pdelays, mean_link_delay}
-use Rattle.rules.specs.RunLaws.{Taken, BothOrders, AllOrders}
-use Rattle.rules.specs.IeeeLaws.{wire_fields}
 
 -- ---- what is measured
 

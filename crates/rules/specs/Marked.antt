@@ -1,13 +1,12 @@
 -- What the laws of proofs/Marked.antt speak of.
-use Rattle.std.specs.Prelude.{ℕ, ◌+◌, ◌-◌, ◌*◌, ◌^◌, ◌≡◌, refl, true, false, List, [], ◌∷◌, ℤ, pos, negsuc}
-use Rattle.time.specs.Units.{time_words}
+use Rattle.std.specs.Prelude.{◌-◌, ◌*◌, ◌^◌, [], ◌∷◌, pos, negsuc}
 use Rattle.wire.specs.Layout.{two_step_flag}
 use Rattle.sent.specs.Messages.{no_flag}
-use Rattle.record.specs.Record.{state_number, with_state}
-use Rattle.rules.specs.Names.{Time, Identity, Body, Mechanism, PortState, Port, Context, Measurement}
-use Rattle.rules.specs.Events.{Event, event, general, stamp, sync_timer, delay_timer}
+use Rattle.record.specs.Record.{with_state}
+use Rattle.rules.specs.Names.{PortState}
+use Rattle.rules.specs.Events.{event, general, sync_timer, delay_timer}
 use Rattle.rules.specs.Exchanges.{sent_at}
-use Rattle.rules.specs.Running.{run_of, lines, quiet, measures, left_by, resets_in, us, master, stranger, ns, in_units, lasting, set_up, slave, message, wire_ns, two_step_sync_of, one_step_sync_of, follow_up_at}
+use Rattle.rules.specs.Running.{master, ns, lasting, slave, two_step_sync_of, one_step_sync_of, follow_up_at}
 use Rattle.rules.specs.Examples.{MeasuresSync, LeavesOpen, Asymmetric, ids_at, TakesLast, TimerIs}
 use Rattle.rules.specs.ExamplesPeer.{asker, answer, answer_follow_up, half_ns, MeasuresPeer, MeasuresOneStep, early, later}
 

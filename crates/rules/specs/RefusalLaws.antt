@@ -1,19 +1,11 @@
 -- What the laws of proofs/RefusalLaws.antt speak of.
-use Rattle.std.specs.Prelude.{◌≡◌, Bool, true, false, [], ℕ}
-use Rattle.std.proofs.Math.Path.{refl}
-use Rattle.std.proofs.Common.{sym, ap, ◌∙◌, subst}
-use Rattle.octets.proofs.BytesLaws.{apart}
+use Rattle.std.specs.Prelude.{◌≡◌, false, [], ℕ}
 use Rattle.rules.specs.Names.{Port, MaybeMeasurement, Outcome}
 use Rattle.fitness.specs.Fit.{unfit}
-use Rattle.rules.specs.Worked.{Worked, worked, refused}
-use Rattle.rules.specs.Events.{Event, Done, Result, answered, refusal}
-use Rattle.record.specs.Record.{with_sync, with_delay, with_slave, with_peer}
-use Rattle.rules.specs.Measuring.{settle}
-use Rattle.rules.specs.Rules.{filtered, state_set}
+use Rattle.rules.specs.Worked.{worked}
+use Rattle.rules.specs.Events.{Event, Done, Result, answered}
 use Rattle.rules.specs.Table.{row1, row3}
-use Rattle.rules.specs.Step.{tabled, unless, rule_of, step}
-use Rattle.rules.specs.AllLaws.{Comes, Anything, Silent, All}
-use Rattle.rules.specs.EveryLaws.{Rows, Every}
+use Rattle.rules.specs.Step.{rule_of, step}
 
 -- ---- no rule refuses with the number of what is taken
 

@@ -1,36 +1,12 @@
 -- What the laws of proofs/ResponderLaws.antt speak of.
-use Rattle.std.specs.Prelude.{ℕ, ◌<◌, ◌≡◌, false, List, ℤ, pos, ◌+ℤ◌, ◌-ℤ◌}
-use Rattle.std.proofs.Math.Path.{refl}
-use Rattle.std.proofs.Common.{sym, ap, ◌∙◌, subst, arith}
-use Rattle.std.proofs.Math.Bool.{true}
+use Rattle.std.specs.Prelude.{ℕ, ◌≡◌, List, ℤ, pos, ◌-ℤ◌}
 use Rattle.time.specs.declared.WireTimestamp.{WireTimestamp}
-use Rattle.time.specs.Units.{time, time_words, duration, wire, correction, half}
-use Rattle.wire.specs.declared.MessageType.TheVariants as M
-use Rattle.wire.specs.Layout.{message_bytes, two_step_flag, two_step, timestamp_of}
-use Rattle.wire.specs.LayoutLaws.{InWidths, HeaderWidths}
-use Rattle.wire.proofs.LayoutLaws.{header_widths}
-use Rattle.octets.specs.Bytes.{Bytes}
+use Rattle.time.specs.Units.{time, duration, correction, half}
+use Rattle.wire.specs.Layout.{message_bytes}
 use Rattle.reading.specs.Reading.{read_of}
-use Rattle.reading.specs.ReadingLaws.{message_is}
-use Rattle.sent.specs.declared.Carried.TheVariants as S
-use Rattle.sent.specs.declared.Carried.{Carried}
-use Rattle.sent.specs.Messages.{header_for, no_flag, no_interval, answer_stamp, follow_stamp, p_delay_resp_of, p_delay_resp_follow_up_of}
-use Rattle.sent.specs.SentLaws.{InLimits, Sendable, Made}
-use Rattle.sent.proofs.SentLaws.{carrying_is, pdelay_resp_sends, pdelay_resp_follow_up_sends}
 use Rattle.sent.specs.CarriedLaws.{units_of, cut_to16}
-use Rattle.sent.proofs.CarriedLaws.{answer_means, follow_means}
-use Rattle.record.specs.Record.{with_peer}
-use Rattle.fitness.specs.Fit.{unfit}
-use Rattle.fitness.specs.FitLaws.{FitConfig}
-use Rattle.fitness.proofs.FitLaws.{fit_is, config_is}
-use Rattle.rules.specs.Names.{Time, Duration, Identity, Header, Body, Sender, Message, MessageAnswer, Reading, MaybeTime, MaybeIdentity, PeerState, Port, Context, Measurement, MaybeMeasurement}
-use Rattle.rules.specs.Worked.{worked}
-use Rattle.rules.specs.Events.{event, general, stamp, Done, Result, answered}
-use Rattle.rules.specs.Rules.{sender_of, on_event}
-use Rattle.rules.specs.Step.{rule_of, step}
-use Rattle.rules.specs.AllLaws.{All, Silent}
-use Rattle.rules.specs.LinearLaws.{num, ◌⊕◌, ◌⊖◌, equal_sums}
-use Rattle.rules.specs.RunLaws.{Taken, BothOrders}
+use Rattle.rules.specs.Names.{Time, Duration, Header, Body, Message, MessageAnswer, Reading, Port, Measurement, MaybeMeasurement}
+use Rattle.rules.specs.Events.{Result}
 
 -- ---- the responder: a message that it sends, with the record kept
 

@@ -1,18 +1,13 @@
 -- What the laws of proofs/RunLaws.antt speak of.
-use Rattle.std.specs.Prelude.{ℕ, ◌≡◌, false, ℤ, ◌+ℤ◌, ◌-ℤ◌}
-use Rattle.std.proofs.Common.{sym, subst}
-use Rattle.time.specs.Units.{time, correction}
-use Rattle.time.specs.Laws.{IsTime}
-use Rattle.octets.proofs.BytesLaws.{neither}
-use Rattle.record.specs.Record.{with_slave, with_sync, with_delay, with_peer}
-use Rattle.fitness.specs.Fit.{full, unfit}
-use Rattle.rules.specs.Names.{Time, Header, Exchange, SlaveState, PeerState, Port, Outcome}
-use Rattle.rules.specs.Worked.{Worked, worked, ◌then◌, less_correction, plus_correction}
-use Rattle.rules.specs.Events.{Event, Done, Result, answered, nothing}
-use Rattle.rules.specs.Measuring.{complete, peer_complete, measure_sync, measure_delay, measure_peer, settle}
-use Rattle.rules.specs.Step.{rule_of, step}
-use Rattle.rules.specs.AllLaws.{All, Silent}
-use Rattle.rules.specs.SumsLaws.{Open}
+use Rattle.std.specs.Prelude.{ℕ, ◌≡◌, false, ℤ}
+use Rattle.time.specs.Units.{time}
+use Rattle.fitness.specs.Fit.{unfit}
+use Rattle.rules.specs.Names.{Time, Port, Outcome}
+use Rattle.rules.specs.Worked.{Worked, worked}
+use Rattle.rules.specs.Events.{Event, Done, Result, answered}
+use Rattle.rules.specs.Measuring.{settle}
+use Rattle.rules.specs.Step.{step}
+use Rattle.rules.specs.AllLaws.{All}
 
 abbrev pub Taken : Result → Type 0
 Taken r = r.outcome ≡ Outcome.Taken

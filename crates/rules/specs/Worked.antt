@@ -1,5 +1,5 @@
 -- What a rule comes to: a value, or the row of 01's table that refuses the event. Each sum, timer and sent message is one of these.
-use Rattle.std.specs.Prelude.{ℕ, ℤ, ◌+ℤ◌, ◌-ℤ◌}
+use Rattle.std.specs.Prelude.{ℕ, ◌+ℤ◌, ◌-ℤ◌}
 use Rattle.rules.specs.Names.{TimeAnswer, DurationAnswer, TimerAnswer, MessageAnswer, Time, Duration, Header, Message, Outcome}
 use Rattle.time.specs.Units.{time, time_of, duration, duration_of, correction}
 

@@ -1,5 +1,5 @@
 -- Laws of what is carried of a stamp: the room that it takes, what it means, and exactly when nothing is carried.
-use Prim.Native.Nat.{ℕ, suc, ◌+◌, ◌*◌, ◌/◌, ◌%◌, ◌^◌, ◌≤◌, ◌<◌}
+use Prim.Native.Nat.{ℕ, suc, ◌+◌, ◌*◌, ◌^◌, ◌≤◌, ◌<◌}
 use Rattle.std.specs.Prelude.{◌≡◌, refl, false, ◌⊎◌, ℤ, negsuc, ◌+ℤ◌, ◌-ℤ◌, ◌*ℤ◌}
 use Rattle.std.proofs.Common.{sym, ◌∙◌, subst, inl, inr, arith, lt_trans, lit<}
 use Rattle.std.proofs.Math.Path.{ap}
@@ -9,7 +9,7 @@ use Rattle.time.specs.declared.Time.{Time}
 use Rattle.time.specs.declared.WireTimestamp.{WireTimestamp}
 use Rattle.time.specs.declared.WireAnswer.{WireAnswer}
 use Rattle.time.specs.declared.WireAnswer.TheVariants as W
-use Rattle.time.specs.Units.{spelled, time, wire, wire_of, signed, correction}
+use Rattle.time.specs.Units.{time, wire, wire_of, signed, correction}
 use Rattle.time.specs.Laws.{signed_low}
 use Rattle.time.specs.WireLaws.{Sent, wire_is, wire_sent, wire_out, wire_out_is}
 use Rattle.time.specs.Lemmas.Integers.{pos_sub, negsuc_sub, difference_is, product_is, not_below}

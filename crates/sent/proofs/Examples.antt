@@ -1,13 +1,8 @@
 -- Worked examples, each computed: the seven messages as bytes, and the edges of what is carried. No two fields hold the same, but for what 01 fixes.
-use Rattle.std.specs.Prelude.{ℕ, ◌+◌, ◌-◌, ◌*◌, ◌^◌, ◌≡◌, refl, List, [], ◌∷◌, ◌++◌, pos}
-use Rattle.time.specs.declared.Time.{Time}
-use Rattle.time.specs.Units.{time, time_words, signed, wire_of}
-use Rattle.wire.specs.declared.Header.{Header}
+use Rattle.std.specs.Prelude.{◌+◌, ◌*◌, ◌^◌, ◌≡◌, refl, [], ◌∷◌, ◌++◌}
+use Rattle.time.specs.Units.{time, signed, wire_of}
 use Rattle.octets.specs.Bytes.{spell, bytes_of}
 use Rattle.wire.specs.Layout.{header_entries, identity_entries, timestamp_entries, body_entries, message_entries, message_bytes}
-use Rattle.sent.specs.declared.Sender.{Sender}
-use Rattle.sent.specs.declared.Message.{Message}
-use Rattle.sent.specs.declared.MessageAnswer.{MessageAnswer}
 use Rattle.sent.specs.declared.MessageAnswer.TheVariants as A
 use Rattle.sent.specs.Messages.{header_for, zero_timestamp, correction_of, answer_stamp, follow_stamp, sync_of, delay_req_of, follow_up_of, p_delay_req_of, p_delay_resp_of, delay_resp_of, p_delay_resp_follow_up_of}
 use Rattle.writing.specs.Examples.{stamp_bytes, requester_bytes}

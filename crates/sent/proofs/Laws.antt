@@ -5,7 +5,7 @@ use Rattle.std.proofs.Math.Bool.{and-true}
 use Rattle.std.proofs.Math.Dec.{leb-suc-suc}
 use Rattle.std.proofs.Math.IntN.{sub_ℕ}
 use Rattle.std.specs.Int.Signed.{mag}
-use Rattle.time.specs.Units.{within, signed}
+use Rattle.time.specs.Units.{signed}
 use Rattle.time.specs.Laws.{was_value, was_refused, signed_low, signed_high}
 use Rattle.time.specs.Lemmas.Integers.{sub_ge, sub_lt, pos_minus, pos_sub, difference_is}
 use Rattle.sent.specs.declared.CorrectionAnswer.TheVariants as C

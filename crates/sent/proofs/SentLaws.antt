@@ -1,25 +1,23 @@
 -- Laws of the seven messages: what is made can be written and reads back, and exactly when nothing is made.
-use Rattle.std.specs.Prelude.{ℕ, ◌+◌, ◌*◌, ◌/◌, ◌%◌, ◌^◌, ◌≤◌, ◌<◌, ◌≡◌, ◌↔◌, [], length}
+use Rattle.std.specs.Prelude.{ℕ, ◌+◌, ◌*◌, ◌/◌, ◌%◌, ◌^◌, ◌<◌, ◌≡◌, ◌↔◌, []}
 use Rattle.std.proofs.Math.Path.{refl, ap}
 use Rattle.std.proofs.Common.{sym, ◌∙◌, subst, append-nil, arith, lt_trans, lit<}
 use Rattle.std.proofs.Math.Bool.{true}
 use Rattle.time.specs.declared.Time.{Time}
 use Rattle.time.specs.declared.WireTimestamp.{WireTimestamp}
-use Rattle.time.specs.Units.{time_words, wire, time_of_wire}
+use Rattle.time.specs.Units.{time_of_wire}
 use Rattle.wire.specs.declared.Identity.{Identity}
 use Rattle.wire.specs.declared.Header.{Header}
 use Rattle.wire.specs.declared.MessageType.{MessageType}
 use Rattle.wire.specs.declared.Body.{Body}
 use Rattle.wire.specs.declared.Body.TheVariants as B
-use Rattle.reading.specs.declared.Reading.TheVariants as G
 use Rattle.wire.specs.Layout.{row, body, type_of, timestamp_of, rest_in, rest_entries, header_entries, identity_entries, timestamp_entries, body_entries, message_entries, message_bytes, two_step_flag, sdo_id}
 use Rattle.reading.specs.Reading.{read_of}
 use Rattle.octets.specs.BytesLaws.{Fits}
 use Rattle.octets.proofs.BytesLaws.{apart}
 use Rattle.wire.specs.LayoutLaws.{InWidths}
 use Rattle.wire.proofs.LayoutLaws.{length_message, row_bounds}
-use Rattle.writing.specs.declared.Written.TheVariants as W
-use Rattle.writing.specs.Writing.{fits_of, write_of, is_time}
+use Rattle.writing.specs.Writing.{fits_of, is_time}
 use Rattle.writing.specs.WritingLaws.{fits_is, fits_when, write_when}
 use Rattle.writing.specs.RoundTrips.{message_back}
 use Rattle.sent.specs.declared.Sender.{Sender}

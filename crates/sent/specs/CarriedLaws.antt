@@ -1,24 +1,14 @@
 -- What the laws of proofs/CarriedLaws.antt speak of.
-use Prim.Native.Nat.{ℕ, suc, ◌+◌, ◌*◌, ◌/◌, ◌%◌, ◌^◌, ◌≤◌, ◌<◌}
-use Rattle.std.specs.Prelude.{◌≡◌, refl, false, ◌⊎◌, ℤ, negsuc, ◌+ℤ◌, ◌-ℤ◌, ◌*ℤ◌}
-use Rattle.std.proofs.Common.{sym, ◌∙◌, subst, inl, inr, arith, lt_trans, lit<}
-use Rattle.std.proofs.Math.Path.{ap}
-use Rattle.std.proofs.Math.Decide.{dec_lt}
-use Rattle.std.proofs.Math.IntN.{pos, sub_ℕ}
+use Prim.Native.Nat.{ℕ, ◌+◌, ◌*◌, ◌/◌, ◌%◌, ◌^◌, ◌<◌}
+use Rattle.std.specs.Prelude.{◌≡◌, ℤ, ◌-ℤ◌, ◌*ℤ◌}
+use Rattle.std.proofs.Math.IntN.{pos}
 use Rattle.time.specs.declared.Time.{Time}
 use Rattle.time.specs.declared.WireTimestamp.{WireTimestamp}
 use Rattle.time.specs.declared.WireAnswer.{WireAnswer}
 use Rattle.time.specs.declared.WireAnswer.TheVariants as W
-use Rattle.time.specs.Units.{spelled, time, wire, wire_of, signed, correction}
-use Rattle.time.specs.Laws.{signed_low}
-use Rattle.time.specs.WireLaws.{Sent, wire_is, wire_sent, wire_out, wire_out_is}
-use Rattle.time.specs.Lemmas.Integers.{pos_sub, negsuc_sub, difference_is, product_is, not_below}
-use Rattle.octets.proofs.BytesLaws.{apart}
-use Rattle.sent.specs.declared.CorrectionAnswer.{CorrectionAnswer}
+use Rattle.time.specs.Units.{spelled, signed}
 use Rattle.sent.specs.declared.CorrectionAnswer.TheVariants as C
-use Rattle.sent.specs.declared.Carried.TheVariants as S
-use Rattle.sent.specs.Messages.{in_correction, correction_of, with_correction, less_fraction, answer_stamp, fraction, follow_stamp}
-use Rattle.sent.specs.Laws.{IsCorrection}
+use Rattle.sent.specs.Messages.{correction_of}
 
 -- ---- a stamp's numbers
 

@@ -4,12 +4,11 @@ use mathlib.Core.Path.{◌≡◌, refl, ap, sym, ◌∙◌}
 use mathlib.Core.Bool.{Bool, true, false, cond}
 use lib.IntN.{◌+ℤ◌, ◌-ℤ◌}
 use Rattle.time.specs.Units.{time, time_of, correction}
-use Rattle.timers.specs.Timers.{delay_timer_of}
-use Rattle.rules.specs.Names.{Time, TimeAnswer, TimerAnswer, Mechanism, Identity, Header, Exchange, PeerState, SlaveState, Port, Context, Outcome}
-use Rattle.rules.specs.Worked.{Worked, worked, refused, ◌then◌, a_time, a_timer, less_correction, plus_correction}
+use Rattle.rules.specs.Names.{Time, TimeAnswer, Identity, Header, Exchange, PeerState, SlaveState, Port, Context, Outcome}
+use Rattle.rules.specs.Worked.{Worked, worked, refused, ◌then◌, a_time, less_correction, plus_correction}
 use Rattle.rules.specs.Events.{Done, nothing}
 use Rattle.rules.specs.Exchanges.{Change, synced, followed_up, delay_answered, delay_stamped, peer_stamped, second_responder}
-use Rattle.rules.specs.Rules.{from_master, to_us, keeping, sync, follow_up, delay_resp, becomes_faulty, peer_answer, stamped, delay_sent, request}
+use Rattle.rules.specs.Rules.{from_master, to_us, keeping, sync, follow_up, delay_resp, becomes_faulty, peer_answer, stamped}
 use Rattle.record.specs.Record.{with_sync, with_delay, with_slave, with_peer}
 use Rattle.record.specs.Same.{same_identity}
 use Rattle.exchanges.specs.Changing.{exchange_change, peer_change}

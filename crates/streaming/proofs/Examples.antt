@@ -1,13 +1,9 @@
 -- Small logs worked out.
-use Rattle.std.specs.Prelude.{ℕ, ◌≡◌, refl, true, false, List, [], ◌∷◌, ◌++◌, replicate}
+use Rattle.std.specs.Prelude.{◌≡◌, refl, true, false, [], ◌∷◌, ◌++◌, replicate}
 use Rattle.std.proofs.Math.Option.{some}
-use Rattle.record.specs.declared.Config.{Config}
-use Rattle.record.specs.declared.Mechanism.{Mechanism}
-use Rattle.record.specs.declared.Context.{Context}
-use Rattle.record.specs.declared.NewState.{NewState}
 use Rattle.record.specs.declared.MaybeDuration.{MaybeDuration}
 use Rattle.record.specs.declared.MaybeNanoseconds.{MaybeNanoseconds}
-use Rattle.rules.specs.Events.{Event, event, general, stamp, sync_timer, delay_timer, filter_answer, set_state}
+use Rattle.rules.specs.Events.{general, sync_timer, delay_timer}
 use Rattle.octets.specs.Bytes.{number}
 use Rattle.wire.specs.Layout.{identity_at}
 use Rattle.event_log.specs.Fields.{time_at, duration_at, inner_of, context_at, state_at, event_of, general_of, stamp_of, sync_timer_of, delay_timer_of, update_of, filter_of, set_state_of, config_of}

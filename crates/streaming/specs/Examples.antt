@@ -1,18 +1,12 @@
 -- What the laws of proofs/Examples.antt speak of.
-use Rattle.std.specs.Prelude.{ℕ, ◌≡◌, refl, true, false, List, [], ◌∷◌, ◌++◌, replicate}
-use Rattle.std.proofs.Math.Option.{some}
+use Rattle.std.specs.Prelude.{ℕ, List, [], ◌∷◌, ◌++◌, replicate}
 use Rattle.record.specs.declared.Config.{Config}
 use Rattle.record.specs.declared.Mechanism.{Mechanism}
 use Rattle.record.specs.declared.Context.{Context}
 use Rattle.record.specs.declared.NewState.{NewState}
 use Rattle.record.specs.declared.MaybeDuration.{MaybeDuration}
 use Rattle.record.specs.declared.MaybeNanoseconds.{MaybeNanoseconds}
-use Rattle.rules.specs.Events.{Event, event, general, stamp, sync_timer, delay_timer, filter_answer, set_state}
-use Rattle.octets.specs.Bytes.{number}
-use Rattle.wire.specs.Layout.{identity_at}
-use Rattle.event_log.specs.Fields.{time_at, duration_at, inner_of, context_at, state_at, event_of, general_of, stamp_of, sync_timer_of, delay_timer_of, update_of, filter_of, set_state_of, config_of}
-use Rattle.event_log.specs.Fields.{field_of, stated_of, possible, none_of, cut_of, front_of}
-use Rattle.streaming.specs.Log.{next, good, bad, rest, scan_from, scan, end, bad_at, ended, gathered, read_log}
+use Rattle.rules.specs.Events.{Event, event, stamp, filter_answer, set_state}
 
 -- clock 258, port 7, sdo id 256, domain 4, minor 1, peer, interval bytes 3 and 255, asymmetry 9
 abbrev pub configuration : List ℕ

@@ -1,5 +1,5 @@
 -- Worked examples, each computed: those of document 01 and the ends of each range. One unit is 2 ^ -32 ns.
-use Rattle.std.specs.Prelude.{◌≡◌, refl, ◌+◌, ◌-◌, ◌*◌, ◌^◌, ℤ, pos, neg_ℤ, ◌+ℤ◌, ◌-ℤ◌}
+use Rattle.std.specs.Prelude.{◌≡◌, refl, ◌+◌, ◌-◌, ◌*◌, ◌^◌, pos, neg_ℤ, ◌+ℤ◌, ◌-ℤ◌}
 use Rattle.time.specs.declared.TimeAnswer.TheVariants as T
 use Rattle.time.specs.declared.DurationAnswer.TheVariants as D
 use Rattle.time.specs.declared.WordsAnswer.TheVariants as O

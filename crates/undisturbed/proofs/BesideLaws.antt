@@ -1,9 +1,9 @@
 -- Events that belong to no exchange: filter answers, foreign traffic, and what else is harmless. Each reads and writes what both sides share, and neither side.
-use Rattle.std.specs.Prelude.{ℕ, ◌<◌, ◌≡◌, Bool, ◌||◌, List, [], ◌∷◌}
+use Rattle.std.specs.Prelude.{ℕ, ◌<◌, ◌≡◌, Bool, ◌||◌, [], ◌∷◌}
 use Rattle.std.proofs.Math.Path.{refl, ap}
 use Rattle.std.proofs.Common.{sym, ◌∙◌, true≢false, arith}
 use Rattle.std.proofs.Math.Bool.{true, false, cond}
-use Rattle.std.proofs.Math.Option.{Option, none, some}
+use Rattle.std.proofs.Math.Option.{none, some}
 use Rattle.wire.specs.Layout.{row, type_of}
 use Rattle.sent.specs.Messages.{p_delay_resp_of, p_delay_resp_follow_up_of}
 use Rattle.record.specs.Ids.{id_after}
@@ -11,7 +11,7 @@ use Rattle.fitness.specs.Fit.{config_out, unfit}
 use Rattle.fitness.specs.FitLaws.{FitSync}
 use Rattle.record.specs.Same.{same_identity}
 use Rattle.record.proofs.SameLaws.{same_identity_lem}
-use Rattle.rules.specs.Names.{MessageAnswer, Time, Identity, Header, Body, MaybeDuration, Exchange, PeerState, Mechanism, Config, Port, Outcome, Message, Context, Action, MaybeMeasurement}
+use Rattle.rules.specs.Names.{MessageAnswer, Time, Identity, Header, Body, MaybeDuration, Exchange, PeerState, Mechanism, Config, Port, Outcome, Context, Action, MaybeMeasurement}
 use Rattle.rules.specs.Worked.{Worked, worked, refused, ◌then◌, a_message}
 use Rattle.rules.specs.Events.{Event, event, general, stamp, sync_timer, Done, Result, answered, refusal, nothing, sending, packet, Brings}
 use Rattle.rules.specs.Exchanges.{stays, delay_stamped, peer_stamped}

@@ -1,18 +1,17 @@
 -- A run with all that is `Harmless` between the parts of an exchange, end-to-end: it meets what `others_stand` asks, and what it measures is computed besides.
-use Rattle.std.specs.Prelude.{ℕ, ◌<◌, ◌≡◌, refl, List, [], ◌∷◌, eqb}
+use Rattle.std.specs.Prelude.{ℕ, ◌<◌, ◌≡◌, refl, [], ◌∷◌, eqb}
 use Rattle.std.proofs.Common.{ap, true≢false, arith}
-use Rattle.sent.specs.Messages.{no_flag}
 use Rattle.record.specs.Record.{slave_of}
-use Rattle.rules.specs.Names.{Body, Mechanism, MaybeDuration, Context, Measurement}
-use Rattle.rules.specs.Events.{Event, event, general, stamp, sync_timer, delay_timer, buffer_after}
-use Rattle.undisturbed.specs.Runs.{other, free, Item, placed, lane, joined, Each, log_of, found}
+use Rattle.rules.specs.Names.{Mechanism, MaybeDuration, Measurement}
+use Rattle.rules.specs.Events.{delay_timer, buffer_after}
+use Rattle.undisturbed.specs.Runs.{lane, joined, Each, log_of, found}
 use Rattle.undisturbed.specs.Whole.{OfDelay, RequestExchange, SyncExchanges, RequestExchanges}
 use Rattle.undisturbed.specs.Undisturbed.{happens, measured_in, AllStand, Woven, Undisturbed}
 use Rattle.undisturbed.specs.Harmless.{Harmless}
 use Rattle.undisturbed.proofs.UndisturbedLaws.{others_stand}
-use Rattle.rules.specs.Running.{run_of, us, master, stranger, ns, lasting, slave, message, wire_ns, two_step_sync_of}
+use Rattle.rules.specs.Running.{run_of, master, ns, lasting, slave}
 use Rattle.rules.specs.IeeeExamples.{small}
-use Rattle.undisturbed.specs.WovenExamples.{request_part, request_last, all_small, buffer}
+use Rattle.undisturbed.specs.WovenExamples.{request_part, all_small, buffer}
 use Rattle.undisturbed.proofs.WovenExamples.{all_bytes, from_master, as_listed}
 use Rattle.undisturbed.specs.HarmlessExamples.{answers, run}
 

@@ -11,12 +11,11 @@ use Rattle.rules.specs.Events.{Event, Done, Result, answered, nothing}
 use Rattle.rules.specs.Measuring.{settle, measured}
 use Rattle.rules.specs.Table.{row1, row3}
 use Rattle.rules.specs.Step.{rule_of, step}
-use Rattle.rules.specs.Given.{BytesIn}
 use Rattle.rules.specs.WorkedOut.{Completed, numbers_of}
 use Rattle.rules.specs.Formulas.{Says}
-use Rattle.undisturbed.specs.Runs.{Lane, new, again, in_full, short, a_part, the_last, Place, within, free, Item, placed}
+use Rattle.undisturbed.specs.Runs.{Lane, new, again, in_full, short, a_part, the_last, within, free, Item, placed}
 use Rattle.undisturbed.specs.Times.{Times, times_in, times_of, complete_of, comes_to}
-use Rattle.undisturbed.specs.Undisturbed.{Reply, TakenButForeign, measured_in}
+use Rattle.undisturbed.specs.Undisturbed.{measured_in}
 use Rattle.undisturbed.specs.PlainLaws.{plain, plain_reply, PlainSays}
 use Rattle.undisturbed.specs.SideLaws.{PartGoes, LastGoes, Goes}
 use Rattle.rules.specs.AllLaws.{Comes, Anything, Silent, All}

@@ -1,18 +1,16 @@
 -- What demand 3 does not speak of, and why: small runs, each with what it measures and what is measured where each exchange stands together. None of them is `Woven`, not even with what is `Harmless`: by `others_stand` it would then measure what it does not. And, at the end, what it does not promise: a run that is `Woven`, and leaves another buffer than the gathered one.
-use Rattle.std.specs.Prelude.{ℕ, ◌^◌, ◌≡◌, refl, Bool, true, false, List, [], ◌∷◌, length, take, eqb}
+use Rattle.std.specs.Prelude.{◌≡◌, refl, Bool, true, false, List, [], ◌∷◌, length, eqb}
 use Rattle.std.proofs.Common.{sym, ap, true≢false}
-use Rattle.sent.specs.Messages.{no_flag}
-use Rattle.record.specs.Record.{state_number, with_slave, slave_of}
-use Rattle.rules.specs.Names.{Identity, Body, Reading, Mechanism, Port, MaybeDuration, Context, NewState, Measurement}
-use Rattle.rules.specs.Events.{Event, event, general, stamp, delay_timer, set_state, buffer_after}
-use Rattle.undisturbed.specs.Runs.{other, free, Item, placed, gather_from, gather, lane, joined, Each, log_of, end_of, found}
+use Rattle.record.specs.Record.{with_slave, slave_of}
+use Rattle.rules.specs.Names.{Reading, Mechanism, Measurement}
+use Rattle.rules.specs.Events.{delay_timer, buffer_after}
+use Rattle.undisturbed.specs.Runs.{gather_from, gather, lane, joined, Each, log_of, end_of, found}
 use Rattle.undisturbed.specs.Whole.{OfDelay, RequestExchange, SyncExchanges, RequestExchanges, Foreign, other_sync, other_follow_up, other_delay_resp, delay_resp_for_other, p_delay_resp_for_other, p_delay_resp_follow_up_for_other, a_p_delay_req, unheard}
-use Rattle.undisturbed.specs.Undisturbed.{happens, measured_in, Idle, NothingElse, AllStand, Woven}
-use Rattle.undisturbed.specs.Harmless.{Harmless}
+use Rattle.undisturbed.specs.Undisturbed.{happens, Idle, NothingElse, AllStand, Woven}
 use Rattle.undisturbed.proofs.UndisturbedLaws.{others_stand}
-use Rattle.rules.specs.Running.{run_of, us, master, stranger, ns, lasting, set_up, slave, message, wire_ns}
+use Rattle.rules.specs.Running.{run_of, master, set_up, slave}
 use Rattle.rules.specs.IeeeExamples.{small}
-use Rattle.undisturbed.specs.WovenExamples.{sync_part, sync_last, request_part, request_last, of_others, all_small, buffer, sync7, follow_up7, follow_up8, sync8, sync9, strangers_p_delay_req}
+use Rattle.undisturbed.specs.WovenExamples.{sync_last, request_part, request_last, all_small, buffer, sync9}
 use Rattle.undisturbed.proofs.WovenExamples.{all_bytes, from_master, as_listed}
 use Rattle.undisturbed.specs.OutsideExamples.{measured_by, leaves, NotWoven, sync7_is, sync8_is, sync9_is, overlapping, one_after_another, slave_again, stamp_of, response_to, delay0_is, delay1_is, late_response, response_in_time, unanswered, unanswered_first, unanswered_last, peer_slave, measured0, peer0_is, peer1_is, late_answer, after_next, asked_within, first_byte, too_late}
 

@@ -6,11 +6,10 @@ use Rattle.std.proofs.Math.Seq.{take-append_seam}
 use Rattle.rules.specs.Names.{Config, Port}
 use Rattle.rules.specs.Events.{Event, Result, buffer_after}
 use Rattle.rules.specs.Step.{step}
-use Rattle.rules.specs.WorkedOut.{Completed, unfinished}
-use Rattle.rules.specs.Formulas.{Says}
+use Rattle.rules.specs.WorkedOut.{unfinished}
 use Rattle.undisturbed.specs.Runs.{syncs, requests, a_part, the_last, within, free, Item, placed, log_of, end_of, Told}
 use Rattle.undisturbed.specs.Times.{comes_to}
-use Rattle.undisturbed.specs.Undisturbed.{Reply, reply_with, happens, FormulaSays}
+use Rattle.undisturbed.specs.Undisturbed.{reply_with, happens, FormulaSays}
 use Rattle.rules.proofs.BufferLaws.{buffer_length}
 use Rattle.undisturbed.specs.PlainLaws.{plain_reply, plain, PlainSays}
 

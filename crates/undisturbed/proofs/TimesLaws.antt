@@ -1,5 +1,5 @@
 -- The times that the events of an exchange have brought, beside those that the record holds: an event that brings what is missing stores just that.
-use Rattle.std.specs.Prelude.{ℕ, ◌≡◌, refl, Bool, true, false, ◌&&◌, ◌||◌, List, [], ◌∷◌, ◌++◌, ℤ}
+use Rattle.std.specs.Prelude.{ℕ, ◌≡◌, refl, Bool, true, false, ◌&&◌, List, [], ◌∷◌, ◌++◌, ℤ}
 use Rattle.std.proofs.Common.{sym, ap, ◌∙◌, subst, true≢false}
 use Rattle.std.proofs.Math.Bool.{and_assoc, and-true}
 use Rattle.std.proofs.Math.Option.{Option, none, some}
@@ -8,7 +8,7 @@ use Rattle.octets.proofs.BytesLaws.{apart, neither}
 use Rattle.fitness.specs.Fit.{there}
 use Rattle.rules.specs.Names.{Time, MaybeTime, Mechanism, Config}
 use Rattle.rules.specs.Events.{Event}
-use Rattle.rules.specs.WorkedOut.{Completed, unfinished, sync, delay, peer}
+use Rattle.rules.specs.WorkedOut.{Completed}
 use Rattle.undisturbed.specs.Times.{Times, no_times, times_in, times_of, earlier_of, and_then, if_given, request_of}
 use Rattle.undisturbed.specs.TimesLaws.{both_given, overlap, finished, Bag, empty_bag, Holds, HoldsAll, Fills, FillsAll, NoneTwice, four, IsHeld, FourThere}
 

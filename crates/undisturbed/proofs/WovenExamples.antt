@@ -1,25 +1,21 @@
 -- A run that demand 3 speaks of, end-to-end, from the bytes of its messages: exchanges woven into each other, ids that wrap, a filter answer and foreign traffic between the parts. It meets all that `undisturbed` asks; what it measures and sends is computed besides. `WovenPeerExamples` has such a run peer-to-peer, `OutsideExamples` what demand 3 does not speak of.
-use Rattle.std.specs.Prelude.{ℕ, ◌^◌, ◌*◌, ◌≡◌, Bool, true, false, ◌&&◌, List, [], ◌∷◌, length, replicate, eqb}
+use Rattle.std.specs.Prelude.{ℕ, ◌≡◌, true, false, List, [], ◌∷◌, length, eqb}
 use Rattle.std.proofs.Math.Path.{refl}
 use Rattle.std.proofs.Common.{sym, ap, true≢false}
-use Rattle.octets.specs.Bytes.{bytes_of}
 use Rattle.octets.proofs.BytesLaws.{both}
-use Rattle.wire.specs.Layout.{header_entries, message_bytes, two_step_flag}
-use Rattle.wire.specs.declared.MessageType.TheVariants as M
-use Rattle.sent.specs.Messages.{header_for, no_flag, no_interval}
+use Rattle.sent.specs.Messages.{no_flag}
 use Rattle.record.specs.Record.{slave_of}
-use Rattle.rules.specs.Names.{Time, Identity, Header, Body, Mechanism, Config, Port, MaybeDuration, MaybeNanoseconds, FilterUpdate, NewState, Context, Outcome, Measurement}
+use Rattle.rules.specs.Names.{Time, Identity, Header, Body, Mechanism, Config, MaybeDuration, FilterUpdate, NewState, Context, Outcome, Measurement}
 use Rattle.rules.specs.Events.{Event, event, general, stamp, sync_timer, delay_timer, filter_answer, set_state, buffer_after}
 use Rattle.rules.specs.Given.{BytesIn}
 use Rattle.rules.specs.Table.{row4, row5, row6, row8}
-use Rattle.undisturbed.specs.Runs.{Lane, syncs, requests, new, in_full, a_part, the_last, from_filter, foreign, within, free, Item, placed, gather_from, gather, lane, joined, Each, log_of, found, Single}
+use Rattle.undisturbed.specs.Runs.{Lane, new, in_full, a_part, the_last, within, Item, placed, gather_from, gather, lane, joined, Each, log_of, found, Single}
 use Rattle.time.specs.declared.WireTimestamp.{WireTimestamp}
 use Rattle.undisturbed.specs.Times.{no_times, later_times, event_times, stamp_times, times_in}
 use Rattle.undisturbed.specs.Whole.{Piece, the_sync, this_one, one_behind, InAnyOrder, firstly, lastly, FromMaster, OfSync, OfDelay, SyncExchange, RequestExchange, SyncExchanges, RequestExchanges, Foreign, FilterAnswer, Not}
-use Rattle.undisturbed.specs.Undisturbed.{Reply, happens, measured_in, NothingElse, AllStand, Woven, Undisturbed}
+use Rattle.undisturbed.specs.Undisturbed.{happens, measured_in, NothingElse, AllStand, Woven, Undisturbed}
 use Rattle.undisturbed.proofs.UndisturbedLaws.{undisturbed}
-use Rattle.rules.specs.Running.{run_of, us, master, stranger, ns, lasting, set_up, slave, message, wire_ns, two_step_sync_of, one_step_sync_of, follow_up_at}
-use Rattle.rules.specs.Examples.{last_ids}
+use Rattle.rules.specs.Running.{run_of, us, master, stranger, ns, lasting, set_up, message, wire_ns}
 use Rattle.rules.specs.IeeeExamples.{small}
 use Rattle.rules.proofs.IeeeExamples.{small_bytes}
 use Rattle.undisturbed.specs.WovenExamples.{sync_part, sync_last, request_part, request_last, of_filter, of_others, small_in, all_small, outcome_in, sent_in, p, buffer, sync7, follow_up7, follow_up8, sync8, sync9, request65535, response65535, stamp65535, request0, stamp0, response0, mean_of30, one_byte, other_domain, announce, strangers_p_delay_req, p_delay_resp_stamp, strangers_sync, delay_resp_for_stranger, run, p_delay_resp, exchange7, exchange8, exchange9, answers65535, answers0}

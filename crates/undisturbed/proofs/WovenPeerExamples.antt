@@ -1,18 +1,17 @@
 -- A run that demand 3 speaks of, peer-to-peer: as in `WovenExamples`, with the same sync exchanges and the same filter answer.
-use Rattle.std.specs.Prelude.{ℕ, ◌^◌, ◌*◌, ◌≡◌, refl, true, false, List, [], ◌∷◌, take, eqb, pos}
+use Rattle.std.specs.Prelude.{ℕ, ◌^◌, ◌*◌, ◌≡◌, refl, true, false, [], ◌∷◌, eqb, pos}
 use Rattle.std.proofs.Common.{sym, ap, true≢false}
 use Rattle.wire.specs.Layout.{two_step_flag}
 use Rattle.sent.specs.Messages.{no_flag}
-use Rattle.record.specs.Record.{with_slave, with_peer, slave_of}
-use Rattle.rules.specs.Names.{Identity, Header, Body, Mechanism, PeerState, Port, MaybeDuration, Context, Outcome, Measurement}
-use Rattle.rules.specs.Events.{Event, event, general, stamp, delay_timer, buffer_after}
+use Rattle.record.specs.Record.{slave_of}
+use Rattle.rules.specs.Names.{Identity, Header, Body, Mechanism, MaybeDuration, Outcome, Measurement}
+use Rattle.rules.specs.Events.{buffer_after}
 use Rattle.rules.specs.Table.{row4, row5, row6, row8}
-use Rattle.undisturbed.specs.Runs.{Item, gather_from, gather, lane, joined, Each, log_of, found}
+use Rattle.undisturbed.specs.Runs.{gather_from, gather, lane, joined, Each, log_of, found}
 use Rattle.undisturbed.specs.Whole.{the_stamp, the_p_delay_resp, the_p_delay_resp_follow_up, this_one, one_behind, firstly, FromResponder, OfPeer, RequestExchange, RequestExchanges, Foreign, FilterAnswer, Not}
 use Rattle.undisturbed.specs.Undisturbed.{happens, measured_in, NothingElse, AllStand, Woven, Undisturbed}
 use Rattle.undisturbed.proofs.UndisturbedLaws.{undisturbed}
-use Rattle.rules.specs.Running.{run_of, us, master, stranger, ns, in_units, lasting, set_up, message, wire_ns, follow_up_at}
-use Rattle.rules.specs.Examples.{last_ids}
+use Rattle.rules.specs.Running.{run_of, us, master, stranger, ns, in_units, lasting, message, wire_ns}
 use Rattle.rules.specs.IeeeExamples.{small}
 use Rattle.undisturbed.specs.WovenExamples.{sync_part, sync_last, request_part, request_last, of_filter, of_others, all_small, outcome_in, sent_in, buffer, sync7, follow_up7, follow_up8, sync8, sync9, mean_of30, one_byte, other_domain, announce, strangers_p_delay_req, p_delay_resp_stamp, strangers_sync, delay_resp_for_stranger, exchange7, exchange8, exchange9}
 use Rattle.undisturbed.proofs.WovenExamples.{all_bytes, the_other_way, not_master, not_us, syncs_whole}

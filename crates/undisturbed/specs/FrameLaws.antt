@@ -1,10 +1,4 @@
 -- What the laws of proofs/FrameLaws.antt speak of.
-use Rattle.std.specs.Prelude.{◌≡◌}
-use Rattle.std.proofs.Math.Path.{refl, ap}
-use Rattle.std.proofs.Common.{◌∙◌}
-use mathlib.Core.List.{List, [], ◌∷◌, ◌++◌}
-use Rattle.undisturbed.specs.Runs.{Lane, syncs, requests, a_part, the_last, Place, within, free, Item, placed, gather_from, gather, lane, Each, log_of, end_of, Told, Once}
-use Rattle.undisturbed.specs.SideLaws.{Goes, Frees}
 
 -- ---- the induction
 

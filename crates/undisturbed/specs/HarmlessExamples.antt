@@ -1,17 +1,11 @@
 -- What the laws of proofs/HarmlessExamples.antt speak of.
-use Rattle.std.specs.Prelude.{ℕ, ◌<◌, ◌≡◌, refl, List, [], ◌∷◌, eqb}
-use Rattle.std.proofs.Common.{ap, true≢false, arith}
+use Rattle.std.specs.Prelude.{List, [], ◌∷◌}
 use Rattle.sent.specs.Messages.{no_flag}
-use Rattle.record.specs.Record.{slave_of}
-use Rattle.rules.specs.Names.{Body, Mechanism, MaybeDuration, Context, Measurement}
-use Rattle.rules.specs.Events.{Event, event, general, stamp, sync_timer, delay_timer, buffer_after}
-use Rattle.undisturbed.specs.Runs.{other, free, Item, placed, lane, joined, Each, log_of, found}
-use Rattle.undisturbed.specs.Whole.{OfDelay, RequestExchange, SyncExchanges, RequestExchanges}
-use Rattle.undisturbed.specs.Undisturbed.{happens, measured_in, AllStand, Woven, Undisturbed}
-use Rattle.undisturbed.specs.Harmless.{Harmless}
-use Rattle.rules.specs.Running.{run_of, us, master, stranger, ns, lasting, slave, message, wire_ns, two_step_sync_of}
-use Rattle.rules.specs.IeeeExamples.{small}
-use Rattle.undisturbed.specs.WovenExamples.{request_part, request_last, all_small, buffer}
+use Rattle.rules.specs.Names.{Body, Context}
+use Rattle.rules.specs.Events.{Event, event, general, stamp, sync_timer, delay_timer}
+use Rattle.undisturbed.specs.Runs.{other, free, Item, placed}
+use Rattle.rules.specs.Running.{us, master, stranger, ns, message, wire_ns, two_step_sync_of}
+use Rattle.undisturbed.specs.WovenExamples.{request_part, request_last}
 
 abbrev pub besides : Event → Item Event
 besides e = placed (free other) e

@@ -1,32 +1,14 @@
 -- What the laws of proofs/LaneLaws.antt speak of.
-use Rattle.std.specs.Prelude.{ℕ, ◌≡◌, refl, Bool, cond}
-use Rattle.std.proofs.Common.{sym, ◌∙◌}
-use Rattle.std.proofs.Math.Path.{ap, subst}
+use Rattle.std.specs.Prelude.{◌≡◌, Bool}
 use Rattle.std.proofs.Math.Bool.{true, false}
 use mathlib.Core.List.{List, [], ◌∷◌, ◌++◌}
-use Rattle.fitness.specs.Fit.{config_out, unfit}
-use Rattle.rules.specs.Names.{Time, Identity, Config, Port, Outcome, Measurement, MaybeMeasurement}
-use Rattle.rules.specs.Worked.{Worked, worked, refused, ◌then◌}
-use Rattle.rules.specs.Events.{Event, Done, Result, answered, nothing}
-use Rattle.rules.specs.Measuring.{settle, measured}
-use Rattle.rules.specs.Table.{row1, row3}
-use Rattle.rules.specs.Step.{rule_of, step}
+use Rattle.rules.specs.Names.{Config, Outcome, MaybeMeasurement}
+use Rattle.rules.specs.Events.{Event}
 use Rattle.rules.specs.Given.{BytesIn}
-use Rattle.rules.specs.WorkedOut.{Completed, numbers_of}
-use Rattle.rules.specs.Formulas.{Says}
 use Rattle.undisturbed.specs.Runs.{Lane, new, again, in_full, short, a_part, the_last, Place, within, free, Item, placed}
-use Rattle.undisturbed.specs.Times.{Times, times_in, times_of, complete_of, comes_to}
-use Rattle.undisturbed.specs.Undisturbed.{Reply, TakenButForeign, measured_in}
-use Rattle.undisturbed.specs.PlainLaws.{plain, plain_reply, PlainSays}
-use Rattle.undisturbed.specs.SideLaws.{PartGoes, LastGoes, Goes}
-use Rattle.rules.specs.AllLaws.{Comes, Anything, Silent, All}
-use Rattle.rules.proofs.AllLaws.{all_is}
-use Rattle.rules.proofs.AgreeLaws.{agrees_all}
-use Rattle.rules.specs.MeasureLaws.{Judged}
-use Rattle.rules.specs.RefusalLaws.{NotTaken}
-use Rattle.rules.proofs.FitnessLaws.{fitness_kept}
-use Rattle.undisturbed.specs.StandingLaws.{Shared, gated, LetThrough, let_through}
-use Rattle.undisturbed.specs.TimesLaws.{overlap, finished, Bag, HoldsAll, FillsAll}
+use Rattle.undisturbed.specs.Times.{times_in, times_of, comes_to}
+use Rattle.undisturbed.specs.Undisturbed.{Reply, TakenButForeign}
+use Rattle.undisturbed.specs.TimesLaws.{overlap, finished}
 
 -- what is known of an event of the given run
 abbrev pub Ok : Place → Event × Reply → Type 0

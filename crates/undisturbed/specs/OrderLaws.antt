@@ -1,21 +1,11 @@
 -- What the laws of proofs/OrderLaws.antt speak of.
-use Prim.Native.Nat.{ℕ, zero, suc}
-use Rattle.std.specs.Prelude.{◌≡◌, Bool, true, ◌&&◌, ◌||◌, not, ℤ}
-use Rattle.std.proofs.Math.Path.{refl, ap, subst}
-use Rattle.std.proofs.Common.{sym, ◌∙◌, true≢false}
-use Rattle.std.proofs.Math.Bool.{false, and-true}
-use mathlib.Core.List.{List, [], ◌∷◌, ◌++◌}
+use Rattle.std.specs.Prelude.{Bool, true, ◌&&◌, ◌||◌, not, ℤ}
+use Rattle.std.proofs.Math.Bool.{false}
+use mathlib.Core.List.{List, [], ◌∷◌}
 use Rattle.std.proofs.Math.Option.{Option, none, some}
-use borrow.Author.Tests.{not-true}
-use Rattle.octets.proofs.BytesLaws.{both}
-use Rattle.rules.specs.Names.{Mechanism, Config}
 use Rattle.rules.specs.Events.{Event}
-use Rattle.rules.specs.WorkedOut.{Completed}
-use Rattle.undisturbed.specs.Runs.{Lane, Item}
-use Rattle.undisturbed.specs.Times.{Times, times_in, times_of, earlier_of, and_then, if_given, sync_of, request_of, complete_of, comes_to}
-use Rattle.undisturbed.specs.Whole.{Piece, Picks, this_one, one_behind, InAnyOrder, firstly, lastly}
-use Rattle.undisturbed.specs.TimesLaws.{both_given, overlap, finished}
-use Rattle.undisturbed.specs.LaneLaws.{Brought, Rest}
+use Rattle.undisturbed.specs.Times.{Times}
+use Rattle.undisturbed.specs.Whole.{Piece}
 
 -- ---- which times are there
 

@@ -1,17 +1,14 @@
 -- What the laws of proofs/OutsideExamples.antt speak of.
-use Rattle.std.specs.Prelude.{ℕ, ◌^◌, ◌≡◌, refl, Bool, true, false, List, [], ◌∷◌, length, take, eqb}
-use Rattle.std.proofs.Common.{sym, ap, true≢false}
+use Rattle.std.specs.Prelude.{ℕ, ◌^◌, List, [], ◌∷◌, take}
 use Rattle.sent.specs.Messages.{no_flag}
 use Rattle.record.specs.Record.{state_number, with_slave, slave_of}
-use Rattle.rules.specs.Names.{Identity, Body, Reading, Mechanism, Port, MaybeDuration, Context, NewState, Measurement}
-use Rattle.rules.specs.Events.{Event, event, general, stamp, delay_timer, set_state, buffer_after}
-use Rattle.undisturbed.specs.Runs.{other, free, Item, placed, gather_from, gather, lane, joined, Each, log_of, end_of, found}
-use Rattle.undisturbed.specs.Whole.{OfDelay, RequestExchange, SyncExchanges, RequestExchanges, Foreign, other_sync, other_follow_up, other_delay_resp, delay_resp_for_other, p_delay_resp_for_other, p_delay_resp_follow_up_for_other, a_p_delay_req, unheard}
-use Rattle.undisturbed.specs.Undisturbed.{happens, measured_in, Idle, NothingElse, AllStand, Woven}
+use Rattle.rules.specs.Names.{Identity, Body, Mechanism, Port, MaybeDuration, Context, NewState, Measurement}
+use Rattle.rules.specs.Events.{Event, event, general, stamp, delay_timer, set_state}
+use Rattle.undisturbed.specs.Runs.{other, free, Item, placed, log_of, end_of, found}
+use Rattle.undisturbed.specs.Undisturbed.{happens, measured_in, Woven}
 use Rattle.undisturbed.specs.Harmless.{Harmless}
-use Rattle.rules.specs.Running.{run_of, us, master, stranger, ns, lasting, set_up, slave, message, wire_ns}
-use Rattle.rules.specs.IeeeExamples.{small}
-use Rattle.undisturbed.specs.WovenExamples.{sync_part, sync_last, request_part, request_last, of_others, all_small, buffer, sync7, follow_up7, follow_up8, sync8, sync9, strangers_p_delay_req}
+use Rattle.rules.specs.Running.{us, master, stranger, ns, lasting, set_up, slave, message, wire_ns}
+use Rattle.undisturbed.specs.WovenExamples.{sync_part, sync_last, request_part, request_last, of_others, buffer, sync7, follow_up7, follow_up8, sync8, sync9, strangers_p_delay_req}
 
 abbrev pub besides : Event → Item Event
 besides e = placed (free other) e

@@ -1,4 +1,4 @@
--- What the laws of proofs/SideLaws.antt speak of.
+-- What must hold of each event, one by one, for a run to go through: of the events of an exchange on their own side of what stands, and of those that belong to none. Nothing here knows what an event is.
 use Rattle.std.specs.Prelude.{◌≡◌, List, [], ◌∷◌, ◌++◌}
 use Rattle.undisturbed.specs.Runs.{syncs, requests, a_part, the_last, Place, within, free, Item, placed, Once}
 

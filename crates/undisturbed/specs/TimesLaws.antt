@@ -1,15 +1,10 @@
 -- What the laws of proofs/TimesLaws.antt speak of.
-use Rattle.std.specs.Prelude.{ℕ, ◌≡◌, refl, Bool, true, false, ◌&&◌, ◌||◌, List, [], ◌∷◌, ◌++◌, ℤ}
-use Rattle.std.proofs.Common.{sym, ap, ◌∙◌, subst, true≢false}
-use Rattle.std.proofs.Math.Bool.{and_assoc, and-true}
+use Rattle.std.specs.Prelude.{◌≡◌, Bool, true, false, ◌||◌, ℤ}
 use Rattle.std.proofs.Math.Option.{Option, none, some}
 use Rattle.time.specs.Units.{time}
-use Rattle.octets.proofs.BytesLaws.{apart, neither}
-use Rattle.fitness.specs.Fit.{there}
-use Rattle.rules.specs.Names.{Time, MaybeTime, Mechanism, Config}
-use Rattle.rules.specs.Events.{Event}
+use Rattle.rules.specs.Names.{Time, MaybeTime, Mechanism}
 use Rattle.rules.specs.WorkedOut.{Completed, unfinished, sync, delay, peer}
-use Rattle.undisturbed.specs.Times.{Times, no_times, times_in, times_of, earlier_of, and_then, if_given, request_of}
+use Rattle.undisturbed.specs.Times.{Times, if_given, request_of}
 
 -- ---- none of the times of one is one of the other's; all that an exchange wants is there
 

@@ -1,26 +1,16 @@
 -- What the laws of proofs/WovenExamples.antt speak of.
-use Rattle.std.specs.Prelude.{ℕ, ◌^◌, ◌*◌, ◌≡◌, Bool, true, false, ◌&&◌, List, [], ◌∷◌, length, replicate, eqb}
-use Rattle.std.proofs.Math.Path.{refl}
-use Rattle.std.proofs.Common.{sym, ap, true≢false}
+use Rattle.std.specs.Prelude.{ℕ, ◌^◌, ◌*◌, Bool, true, ◌&&◌, List, [], ◌∷◌, replicate}
 use Rattle.octets.specs.Bytes.{bytes_of}
-use Rattle.octets.proofs.BytesLaws.{both}
 use Rattle.wire.specs.Layout.{header_entries, message_bytes, two_step_flag}
 use Rattle.wire.specs.declared.MessageType.TheVariants as M
 use Rattle.sent.specs.Messages.{header_for, no_flag, no_interval}
-use Rattle.record.specs.Record.{slave_of}
-use Rattle.rules.specs.Names.{Time, Identity, Header, Body, Mechanism, Config, Port, MaybeDuration, MaybeNanoseconds, FilterUpdate, NewState, Context, Outcome, Measurement}
-use Rattle.rules.specs.Events.{Event, event, general, stamp, sync_timer, delay_timer, filter_answer, set_state, buffer_after}
-use Rattle.rules.specs.Given.{BytesIn}
-use Rattle.rules.specs.Table.{row4, row5, row6, row8}
-use Rattle.undisturbed.specs.Runs.{Lane, syncs, requests, new, in_full, a_part, the_last, from_filter, foreign, within, free, Item, placed, gather_from, gather, lane, joined, Each, log_of, found, Single}
-use Rattle.time.specs.declared.WireTimestamp.{WireTimestamp}
-use Rattle.undisturbed.specs.Times.{no_times, later_times, event_times, stamp_times, times_in}
-use Rattle.undisturbed.specs.Whole.{Piece, the_sync, this_one, one_behind, InAnyOrder, firstly, lastly, FromMaster, OfSync, OfDelay, SyncExchange, RequestExchange, SyncExchanges, RequestExchanges, Foreign, FilterAnswer, Not}
-use Rattle.undisturbed.specs.Undisturbed.{Reply, happens, measured_in, NothingElse, AllStand, Woven, Undisturbed}
-use Rattle.rules.specs.Running.{run_of, us, master, stranger, ns, lasting, set_up, slave, message, wire_ns, two_step_sync_of, one_step_sync_of, follow_up_at}
+use Rattle.rules.specs.Names.{Identity, Body, Port, MaybeDuration, MaybeNanoseconds, Context, Outcome}
+use Rattle.rules.specs.Events.{Event, event, general, stamp, sync_timer, delay_timer, filter_answer, set_state}
+use Rattle.undisturbed.specs.Runs.{syncs, requests, new, in_full, a_part, the_last, from_filter, foreign, within, free, Item, placed}
+use Rattle.undisturbed.specs.Undisturbed.{Reply}
+use Rattle.rules.specs.Running.{us, master, stranger, ns, lasting, slave, message, wire_ns, two_step_sync_of, one_step_sync_of, follow_up_at}
 use Rattle.rules.specs.Examples.{last_ids}
 use Rattle.rules.specs.IeeeExamples.{small}
-use Rattle.rules.proofs.IeeeExamples.{small_bytes}
 
 -- ---- words for runs: an event at its place
 

@@ -1,19 +1,9 @@
 -- What the laws of proofs/LayoutLaws.antt speak of.
-use Rattle.std.specs.Prelude.{ℕ, ◌+◌, ◌/◌, ◌^◌, ◌≤◌, ◌<◌, ◌≡◌, refl, Bool, true, false, cond, List, [], ◌∷◌, ◌++◌, length, take, drop, eqb}
-use Rattle.std.proofs.Common.{sym, ◌∙◌, ap, arith, length-append, lit<, lit≤, eq-eqb, eqb-true}
+use Rattle.std.specs.Prelude.{◌^◌, ◌≤◌, ◌<◌}
 use Rattle.wire.specs.declared.Identity.{Identity}
 use Rattle.wire.specs.declared.Header.{Header}
 use Rattle.wire.specs.declared.MessageType.{MessageType}
-use Rattle.wire.specs.declared.MessageType.TheVariants as M
-use Rattle.wire.specs.declared.Kind.{Kind}
-use Rattle.wire.specs.declared.Kind.TheVariants as K
-use Rattle.wire.specs.declared.Body.{Body}
-use Rattle.wire.specs.declared.Body.TheVariants as B
-use Rattle.wire.specs.declared.Rest.{Rest}
-use Rattle.wire.specs.declared.Rest.TheVariants as Q
-use Rattle.octets.specs.Bytes.{puts, bytes_of, size_of, tiles, Bytes, number}
-use Rattle.wire.specs.Layout.{header_entries, timestamp_entries, identity_entries, rest_entries, rest_in, body_entries, row, named, kind_of, type_of, body_of, timestamp_of, timestamp_at, body, message_entries, message_bytes, header_of, identity_at}
-use Rattle.octets.proofs.BytesLaws.{apart, written, puts_append, length-bytes_of, bytes_of_append, number_lt}
+use Rattle.wire.specs.Layout.{row}
 
 -- ---- the types
 
