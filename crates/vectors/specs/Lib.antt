@@ -1,0 +1,2 @@
+-- What is left where a read fails.
+pub mod Fetching
