@@ -39,7 +39,8 @@ pub data Ran (style : Style) (w₀ d₀ : List ℕ) : ℕ → Flow → List ℕ 
   none : (f : Flow) → f ≡ begun start_of → Ran style w₀ d₀ 0 f w₀ d₀
   one_more : (n : ℕ) (f : Flow) (w d : List ℕ) (r : Flow) (w' d' : List ℕ) → Ran style w₀ d₀ n f w d → f.go ≡ true → Turns style f w d r w' d' → Ran style w₀ d₀ (n + 1) r w' d'
 
--- the loop ends where the flow says so, and not before: but for a count of turns that no run reaches
+-- the loop ends where the flow says so, and not before: but for a count of turns that no run reaches. Whether a turn's lines were written and what a read answered stays
+-- open, so another turn that leaves the same window and buffer may stand in place of the last one
 pub record Pumped (style : Style) (w₀ d₀ w d : List ℕ) : Type 0 where
   pub turns : ℕ
   pub left : Flow
