@@ -16,6 +16,8 @@ use Rattle.event_log.specs.Fields.{inner_of, needed, exactly, perhaps, ends, con
 use Rattle.event_log.specs.Fields.{filter_of, set_state_of, config_of, field_of, stated_of, possible, seen, none_of, cut_of, front_of}
 use Rattle.event_log.specs.FieldsLaws.{Lies}
 
+-- ---- inner fields
+
 lies_by : (at n e : ℕ) (b t : Bool) → (b ≡ true → at + 3 + n ≤ e) → Lies at e (cond b (cond t (Inner.At (at + 3) n) Inner.No) Inner.No)
 lies_by at n e true true h = (refl, h refl)
 lies_by at n e true false h = tt

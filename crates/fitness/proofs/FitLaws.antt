@@ -109,6 +109,8 @@ module _ (id : ℕ) (o : MaybeIdentity) (a b c d : MaybeTime) where
       (none_joined (held_time a ++ held_time b) (held_time c) (none_joined (held_time a) (held_time b) (held_when a x) (held_when b y)) (held_when c z))
       (held_when d w)
 
+-- ---- the configuration
+
 interval_in : (byte : ℕ) → interval_out byte ≡ false → in_interval (interval byte) ≡ true
 unfolding interval_out
 interval_in byte e = not-false (in_interval (interval byte)) e
@@ -136,6 +138,8 @@ pub config_when : (c : Config) → FitConfig c → config_out c ≡ false
 unfolding config_out interval_out sdo_out minor_out
 config_when c f =
     simp (f.delay, f.sync, le-ltb 4095 c.sdo (omega (arith, f.sdo)), le-ltb 1 c.minor (omega (arith, f.minor)))
+
+-- ---- the record
 
 pub unfit_parts : (p : Port) → unfit p ≡ (any_out (slave_times p.state) || any_out (peer_times p.peer) || config_out p.config || sync_timeless p.state || unanswered p.peer || slave_full p.state || peer_full p.peer)
 unfolding unfit

@@ -75,6 +75,8 @@ header_same l m e =
     let source : identity_at 20 l ≡ identity_at 20 m = identity_same 20 l m (λ i a b. e i (omega arith) (λ c d. omega arith) (λ c d. omega arith)) in
     simp (front 0 1 (lit≤ tt), front 1 1 (lit≤ tt), front 2 2 (lit≤ tt), front 4 1 (lit≤ tt), front 5 1 (lit≤ tt), front 6 2 (lit≤ tt), front 8 8 (lit≤ tt), source, back 30 2 (lit≤ tt) (lit≤ tt), last)
 
+-- ---- the kinds: what is read of a header, and of a body
+
 to_header : (k : Kind) → 34 ≤ read_to k
 to_header (K.Table t) = omega (arith, (row_bounds t).stamped)
 to_header K.Host = lit≤ tt
@@ -123,6 +125,8 @@ unfolding message_of
 decoded_same (K.Table t) l m e = λ j. timed (time_of_wire (stamp_read t l m e j)) (header_read (K.Table t) l m e j) (body_read t l m e j)
 decoded_same K.Host l m e = ap G.Host (header_read K.Host l m e)
 decoded_same K.Reserved l m e = refl
+
+-- ---- the whole
 
 module _ (l m : List ℕ) (n : Alike (field_at message_length l) (length l) (length m)) (first : (i : ℕ) → i < 4 → get_or l i 0 ≡ get_or m i 0) where
   start : (at w : ℕ) → at + w ≤ 4 → number at w l ≡ number at w m

@@ -54,6 +54,8 @@ pub two_actions : (p : Port) (x y : Action) → with_action (with_action (taken_
 unfolding with_action answer_of places
 two_actions p x y = refl
 
+-- ---- numbers
+
 outcome_back : (o : Outcome) → outcome_of (number_of o) ≡ o
 outcome_back Outcome.Taken = refl
 outcome_back Outcome.Buffer = refl

@@ -105,6 +105,8 @@ module _ {n : ℕ} where
   pub next_small : (m : MaybeNanoseconds) → n ≡ length (next_bytes m) → n ≤ 11
   next_small m h = omega (arith, h, next_most m)
 
+-- ---- the values of the outer fields, and the fields
+
 pub length-config_value : (c : Config) → length (config_value c) ≡ 33
 length-config_value c =
     let choices = c.domain ∷ c.minor ∷ mechanism_byte c.mechanism ∷ c.delay_interval ∷ c.sync_interval ∷ duration_bytes c.asymmetry in

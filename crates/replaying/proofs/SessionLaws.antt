@@ -27,6 +27,8 @@ use Rattle.replaying.specs.RunLaws.{Steps}
 use Rattle.replaying.proofs.RunLaws.{every}
 use Rattle.replaying.specs.SessionLaws.{Tracks}
 
+-- ---- a state and the counts that it stands for
+
 tracks_opened : (q : State) (n at k : ℕ) (c : Config) → Tracks q n at → Tracks (opened q c k) n (at + k)
 tracks_opened q n at k c t =
     record { number = t.number; offset = ap (λ (x : ℕ). (x + k) % 2 ^ 64) t.offset ∙ mod-add-mod at (2 ^ 64) k }

@@ -33,6 +33,8 @@ full_run style p room good h = simp (lt-ltb room 1024 h)
 full_run style p room (bad n) h = simp (lt-ltb room 1024 h)
 full_run style p room (rest n f u) h = simp (lt-ltb room 1024 h)
 
+-- ---- between two fields: w was written, and the run goes on from place i with the state p
+
 pub going_start : (style : Style) (q : State) (s : List ℕ) (last : Bool) (d : List ℕ) → Going style q s last d d q 0 0
 going_start style q s last d = (
   [],

@@ -15,6 +15,8 @@ use Rattle.lines.specs.Lines.{line_of}
 use Rattle.replaying.specs.Replay.{answer_to, results_from, record_after, numbered, last_of, without_port, lines_for, lines_of, replay_lines}
 use Rattle.replaying.specs.WritesLaws.{writes, NoStart}
 
+-- ---- behind the configuration there is no other
+
 front_no_start : (last : Bool) (at : ℕ) (s : List ℕ) → ((n : ℕ) → 3 ≤ n → n ≤ length s → NoStart (scan last false (at + n) (drop n s)))
     → (x : Next) → Front false s last x → NoStart (onward x at false s (λ n. scan last false (at + n) (drop n s)))
 front_no_start last at s go (Next.Config c) (f, _) = absurd (apart (cc f))

@@ -25,6 +25,8 @@ use Rattle.rules.specs.RefusalLaws.{IsTaken}
 use Rattle.rules.proofs.RefusalLaws.{step_has}
 use Rattle.rules.specs.ActionLaws.{Orderly, Said, said_of}
 
+-- ---- order
+
 -- a message is 44 or 54 bytes long
 body_size : (b : Body) → (is_one_of (0 ∷ 44 ∷ 54 ∷ []) (row (type_of b)).length ≡ true) × (eqb (row (type_of b)).length 0 ≡ false)
 body_size (Body.Sync w) = (refl, refl)
@@ -103,6 +105,8 @@ module _ (p : Port) where
 
 pub actions_orderly : (p : Port) (room : ℕ) (e : Event) → Orderly (step p room e)
 actions_orderly p room e = step_has p room e Orderly (unsent p) (λ f l. every_rule (Ordered p) Silent p (each p) e)
+
+-- ---- the packet that goes out is the sent message's: event or general, its context, link-local or not
 
 -- what each message that carries a stamp says
 module _ (s : Sender) (t : Time) (m : Message) where

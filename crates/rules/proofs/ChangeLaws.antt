@@ -18,6 +18,8 @@ use Rattle.rules.proofs.EveryLaws.{silent, heard_event_rule, heard_general_rule,
 use Rattle.rules.proofs.RefusalLaws.{taken_has}
 use Rattle.rules.specs.ChangeLaws.{Follows, IsSet, BeginsAsSlave}
 
+-- ---- configuration, ids and mean delay
+
 module _ (p : Port) (e : Event) where
   abbrev Following : Done → Type 0
   Following d = Follows p e d.port
@@ -92,6 +94,8 @@ module _ (p : Port) (room : ℕ) (e : Event) (t : (step p room e).outcome ≡ Ou
 
   pub mean_after_lem : (step p room e).port.mean ≡ mean_after p e
   mean_after_lem = follows.mean
+
+-- ---- a state that is set
 
 set_rule : (p : Port) (new : NewState) → All (λ d. IsSet p new (answered p (worked d))) (rule_of p (set_state new))
 unfolding rule_of state_set

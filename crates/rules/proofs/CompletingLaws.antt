@@ -14,6 +14,8 @@ use Rattle.rules.specs.AllLaws.{All, Silent, peer_done}
 use Rattle.rules.proofs.AllLaws.{all_silent, all_awaited}
 use Rattle.rules.specs.CompletingLaws.{becoming, response_completes, follow_up_completes, stamp_completes}
 
+-- ---- what a change completes
+
 stored : (is_open : Bool) (place : MaybeTime) (whole : Bool) (sum : Worked Time) (put : Time → PeerState) → ((t : Time) → peer_done (put t) ≡ whole) → All (λ c. becoming c ≡ (is_open && not (there place) && whole)) (awaited is_open place sum put)
 stored is_open place whole sum put f =
     all_awaited (λ c. becoming c ≡ (is_open && not (there place) && whole)) Silent is_open place sum put (all_silent sum)

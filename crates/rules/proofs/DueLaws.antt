@@ -27,6 +27,8 @@ flag_read : (b : Bool) â†’ eqb (cond b two_step_flag 0 / two_step_flag % 2) 1 â‰
 flag_read true = refl
 flag_read false = refl
 
+-- ---- what is carried of a time
+
 no_time_lem : Carrying no_time zero_timestamp 0
 unfolding zero_timestamp signed
 no_time_lem = record { seconds = refl; nanos = refl; correction_is = refl; fits = lit< tt }

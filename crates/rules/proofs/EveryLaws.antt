@@ -12,6 +12,8 @@ use Rattle.rules.proofs.AllLaws.{all_cond}
 use Rattle.rules.proofs.RuleLaws.{all_sync, all_follow_up, all_delay_resp, all_p_delay_resp, all_p_delay_resp_follow_up, all_delay_req, all_p_delay_req, all_sync_stamped, all_delay_stamped, all_peer_stamped, all_response_stamped, all_sync_timer_ends, all_delay_timer_ends}
 use Rattle.rules.specs.EveryLaws.{Rows, Heard, Every}
 
+-- ---- what refuses an event behind row 3
+
 -- where nothing is said of refusals
 pub silent : Rows Silent
 silent = record { unfit = tt; limits = tt; version = tt; malformed = tt; foreign = tt; host = tt; range = tt }
@@ -27,6 +29,8 @@ all_viewed P R rows c (Reading.Message h b t) rule f =
 all_viewed P R rows c (Reading.Host h) rule f = either_row P R (ours c h) Outcome.Host Outcome.Foreign rows.host rows.foreign
 all_viewed P R rows c Reading.Version rule f = rows.version
 all_viewed P R rows c Reading.Malformed rule f = rows.malformed
+
+-- ---- messages and stamps
 
 module _ (P : Done → Type 0) (R : Outcome → Type 0) (p : Port) (k : Heard P R p) where
   pub heard_general : (h : Header) (b : Body) (t : Time) → Comes P R (on_general p h b t)
@@ -72,6 +76,8 @@ module _ (P : Done → Type 0) (R : Outcome → Type 0) (p : Port) (k : Heard P 
   pub heard_stamp_rule : (t : Time) (c : Context) → Comes P R (rule_of p (stamp t c))
   unfolding rule_of
   heard_stamp_rule t c = heard_stamp t c
+
+-- ---- all events
 
 pub every_rule : (P : Done → Type 0) (R : Outcome → Type 0) (p : Port) → Every P R p → (e : Event) → Comes P R (rule_of p e)
 unfolding rule_of

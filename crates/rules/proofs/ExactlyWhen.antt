@@ -14,6 +14,8 @@ use Rattle.rules.specs.Given.{BytesIn}
 use Rattle.rules.proofs.TableLaws.{first_row}
 use Rattle.rules.specs.ExactlyWhen.{NoneOf, ExactlyWhen, conditions, new}
 
+-- ---- of any table whose rows have numbers of their own
+
 other : (o r : Outcome) → not (eqb (number_of r) (number_of o)) ≡ true → r ≡ o → ⊥
 other o r d e = false≢true (sym (ap not (eq-eqb (number_of r) (number_of o) (ap number_of e))) ∙ d)
 

@@ -9,6 +9,8 @@ use Rattle.rules.specs.Actions.{timers_first}
 use Rattle.rules.specs.Running.{run_of, lines, quiet, measures, refuses, left_by, resets_in, us, master, stranger, ns, lasting, set_up, slave, wire_ns, two_step_sync_of, one_step_sync_of, follow_up_at}
 use Rattle.rules.specs.Examples.{MeasuresSync, LeavesOpen, delay_resp_from, request_stamped, Asymmetric, ids_at, TakesLast, TimerIs, set_again, late, Refused, announce, too_late, unfit_port, outcome_in}
 
+-- ---- the marked ones
+
 pub sync_first : MeasuresSync (event (ns 1000) (two_step_sync_of 7) ∷ general (follow_up_at 7 900) ∷ [])
 unfolding run_of
 sync_first = refl
@@ -71,6 +73,8 @@ not_ours = refl
 pub emptied : (left_by (slave 0) (run_of (slave 0) set_again) ≡ slave 0) × (resets_in (run_of (slave 0) set_again) ≡ false ∷ false ∷ true ∷ [])
 unfolding run_of
 emptied = (refl, refl)
+
+-- ---- refusals
 
 pub duplicate_follow_up : Refused (general (follow_up_at 7 900)) (general (late (Body.FollowUp (wire_ns 0)))) (sent_at 7 (ns 900))
 unfolding run_of

@@ -8,6 +8,8 @@ use Rattle.rules.specs.Events.{event, general}
 use Rattle.rules.specs.Running.{run_of, lines, quiet, measures, left_by, resets_in, master, stranger, ns, in_units}
 use Rattle.rules.specs.ExamplesPeer.{asker, asked, answer, answer_follow_up, half_ns, MeasuresPeer, MeasuresOneStep, early, later, two_answers, recovering}
 
+-- ---- a request of id 0, stamped at 1,000 ns, and what may answer it
+
 -- E, and the same with the follow-up first
 pub peer_two_step : MeasuresPeer (event (ns 1101) (answer master two_step_flag 0) ∷ general (answer_follow_up master 5040) ∷ []) (ns 1101)
 unfolding run_of

@@ -55,6 +55,8 @@ message_in_time l h b t bytes e =
     let i : IsTime (wire (timestamp_of b)) t = read_is (timestamp_of b) t (subst (λ (w : WireTimestamp). w.nanos < 2 ^ 32) (sym at) (nanos_width l bytes)) k.time in
     ap in_time i.value ∙ i.within
 
+-- ---- fit records
+
 fit_recovered : (state : PortState) → FitState state → FitState (recovered state)
 fit_recovered PortState.Listening f = f
 fit_recovered PortState.Master f = f

@@ -27,6 +27,8 @@ use Rattle.rules.specs.AllLaws.{All, Silent}
 use Rattle.rules.proofs.AllLaws.{all_then, all_silent}
 use Rattle.rules.specs.HeldSyncLaws.{OnlySlave, EndsAs, completed_by}
 
+-- ---- what is said of a rule: the peer exchange is this, and a Slave is that one
+
 -- in its own state a Slave is the one it was
 pub own_state : (state : PortState) → OnlySlave state state
 own_state PortState.Listening = tt
@@ -64,6 +66,8 @@ all_raw P p s send receive f =
     all_duration P (duration (duration_words a) -ℤ asymmetry p) _ (λ g.
     all_then P Silent (less_mean raw p.mean) _ (all_silent (less_mean raw p.mean)) (λ offset k.
     subst (λ (y : ℤ). P (measured (sync_out p s (duration_words (y -ℤ asymmetry p))) (Measurement.Sync receive raw offset) false)) (sym e) (f (Measurement.Sync receive raw offset)))))
+
+-- ---- the sync exchange: x before the event, y stored by it
 
 with_receive : (k : ℕ) (t : Time) (send : MaybeTime) → completed_by (Exchange.Measuring k send (MaybeTime.Some t)) ≡ held send (λ z. sync z (time t))
 with_receive k t MaybeTime.None = refl

@@ -53,6 +53,8 @@ module _ (p : Port) (s : SlaveState) (id : ℕ) where
       let g : delay_resp (port_with_delay x) h p.config.identity t ≡ (less_correction t h then λ u. settle (port_with_delay (new u))) = (λ i. cond (identity_self p.config.identity i) (cond ((same_identity_lem s.master h.source).1 from i) (cond (eq-eqb id h.id (sym same_id) i) (less_correction t h then stored) (worked stays) then λ y. keeping (port_with_delay x) port_with_delay y) (nothing (port_with_delay x))) (nothing (port_with_delay x))) ∙ then_then (less_correction t h) stored (keeping (port_with_delay x) port_with_delay) in
       turns (delay_part p s) (less_correction t h) (less_worth t h) (λ P. brought_rule h (Body.DelayResp w p.config.identity) t P (port_with_delay x) _ (λ at. g) g e brings)
 
+-- ---- what is measured
+
 -- the standard's sum in the port's order; the two places of <delayAsymmetry> cancel
 path_delay_of : (a : ℤ) (m : Syncs) (d : WireFields) (t2 t3 : ℤ) → half (offset_from_master a m t2 (pos 0) -ℤ ((t3 -ℤ (wire d.timestamp -ℤ correction d.correction_field)) -ℤ a)) ≡ mean_path_delay a m d t2 t3
 unfolding offset_from_master mean_path_delay over_zero under_zero

@@ -23,6 +23,8 @@ use Rattle.rules.proofs.ResponderLaws.{link_measured}
 use Rattle.rules.specs.Running.{run_of, us, master, ns, slave, wire_ns, two_step_sync_of, follow_up_at}
 use Rattle.rules.specs.IeeeExamples.{fields, nano, said, synced, delay_resp, answer, answer_follow_up, asker, small, responder, request, response, response_follow_up, asked_at}
 
+-- ---- the formulas: timestamps and corrections in nanoseconds
+
 -- A, and with an asymmetry of 10, a mean delay of 30, corrections of 3 and 5
 offset_a : offset_from_master (nano 0) (Syncs.two_step (fields 0 0) (fields 900 0)) (nano 1000) (nano 0) ≡ nano 100
 unfolding offset_from_master wire correction signed
@@ -45,6 +47,8 @@ link_delay_e = refl
 link_delay_f : mean_link_delay (nano 7) (Pdelays.one_step (fields 5000 40)) (nano 1000) (nano 1101) ≡ pos (61 * 2 ^ 31)
 unfolding mean_link_delay wire correction signed half
 link_delay_f = refl
+
+-- ---- the theorems, met by runs: what each event brings, and that it is Taken, computes
 
 sync_header : Header
 sync_header = said master M.Sync two_step_flag 0 7
@@ -80,6 +84,8 @@ unfolding run_of answer_header_lem answer_follow_up_header
 link_delay_met =
     (two_step_link_delay asker refl 0 64 refl (ns 1000) (ns 1101) answer answer_header_lem (wire_ns 5000) (ns 5000) refl refl refl
     (general answer_follow_up) answer_follow_up_header (wire_ns 5040) (ns 5040) refl refl refl).cba 64 refl 64 64 refl refl
+
+-- ---- both ends of a link: the request that one port sends at 1,000 ns comes to the other, whose answer is measured
 
 pub small_bytes : (l : List ℕ) → small l ≡ true → Bytes l
 unfolding small

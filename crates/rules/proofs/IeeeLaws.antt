@@ -27,6 +27,8 @@ use Rattle.rules.specs.RunLaws.{BothOrders, Turns}
 use Rattle.rules.proofs.RunLaws.{turns, sync_part, less_worth, plus_worth, after_two}
 use Rattle.rules.specs.IeeeLaws.{IsWorth, MeasuresOffset, wire_fields}
 
+-- ---- what is measured: the raw offset is <offsetFromMaster> with no mean delay, and the offset that with the one that is stored
+
 -- what is given by a formula over another duration, where that is there and where it is not
 pub given_worth : (stored d : MaybeDuration) (f : ℤ → ℤ) (m : Duration) → stored ≡ MaybeDuration.Some m → GivenBy stored f d → IsWorth d (f (duration m))
 given_worth stored MaybeDuration.None f m e g = subst (λ (x : MaybeDuration). GivenBy x f MaybeDuration.None) e g
@@ -73,6 +75,8 @@ module _ (p : Port) (s : SlaveState) (id : ℕ) (send receive : Time) (m : Syncs
         no_offset = λ e. not_given p.mean offset (λ y. z -ℤ y) e given;
         port = refl;
       }))
+
+-- ---- the events, from the master
 
 module _ (p : Port) (s : SlaveState) (h : Header) (t : Time) (from : s.master ≡ h.source) (x : Exchange) (new : Time → Exchange) where
   abbrev port_with_sync : Exchange → Port

@@ -25,6 +25,8 @@ use Rattle.rules.specs.IeeeLaws.{wire_fields}
 use Rattle.rules.proofs.PeerRunLaws.{stamp_turns, response_turns, follow_up_turns, complete_has}
 use Rattle.rules.specs.IeeePeerLaws.{response, MeasuresLinkDelay, requesting}
 
+-- ---- what is measured
+
 -- the standard's sums in the port's order; the two places of <delayAsymmetry> cancel
 two_step_link : (a : ℤ) (r f : WireFields) (t1 t4 : ℤ) → half (((t4 -ℤ correction r.correction_field) -ℤ t1) -ℤ ((wire f.timestamp +ℤ correction f.correction_field) -ℤ wire r.timestamp)) ≡ mean_link_delay a (Pdelays.two_step r f) t1 t4
 unfolding mean_link_delay
@@ -116,6 +118,8 @@ module _ (p : Port) (id : ℕ) (t1 t4 : Time) (message : List ℕ) (hr : Header)
           cba = after_three (peer_part p) TwoGoal (F nobody none none none tt) (λ t. R (by hf) none none (some t) one_source) (λ t u. S (by hr) (some tr) (some t) (some u)) (λ t. refl) (λ t u. refl)
               (λ t u v et eu ev. end hr.source v tr t u refl ev came (left_at t et) eu);
         }
+
+-- ---- the request: a delay timer on a port with the peer mechanism takes the next id and opens its exchange
 
 module _ (p : Port) (peers : p.config.mechanism ≡ Mechanism.Peer) (draw room : ℕ) (k : Taken (step p room (delay_timer draw))) where
   pub peer_requested_lem : (step p room (delay_timer draw)).port ≡ with_peer (requesting p) (peer_requested p.ids.peer)

@@ -19,6 +19,8 @@ use Rattle.rules.specs.EveryLaws.{Rows, Every}
 use Rattle.rules.proofs.EveryLaws.{every_rule}
 use Rattle.rules.specs.RefusalLaws.{NotTaken, Untouched, IsTaken}
 
+-- ---- no rule refuses with the number of what is taken
+
 pub not_taken : Rows NotTaken
 not_taken =
     record {
@@ -77,6 +79,8 @@ untouched p (refused o) n = record { port = refl; measurement = refl; sent = ref
 pub refusal_untouched : (p : Port) (room : ℕ) (e : Event) → ((step p room e).outcome ≡ Outcome.Taken → ⊥) → Untouched p (step p room e)
 unfolding step
 refusal_untouched p room e n = untouched p (tabled p room e) n
+
+-- ---- what is taken
 
 -- behind rows 1, 2 and 3 the rule answers
 pub step_rule : (p : Port) (room : ℕ) (e : Event) → row1 p.config e room ≡ false → unfit p ≡ false → row3 e ≡ false → step p room e ≡ answered p (rule_of p e)

@@ -38,6 +38,8 @@ use Rattle.rules.proofs.RunLaws.{peer_part, after_two}
 use Rattle.rules.proofs.PeerRunLaws.{response_turns, follow_up_turns, complete_has}
 use Rattle.rules.specs.ResponderLaws.{Sends, Carries, way_of, MeasuresWay}
 
+-- ---- the responder: a message that it sends, with the record kept
+
 module _ (q : Port) (room : ℕ) where
   -- a request that it hears at t2
   answers_request : (t2 : Time) (request : List ℕ) (h : Header) (w : WireTimestamp) (t : Time) → read_of request ≡ Reading.Message h (Body.PDelayReq w) t → Taken (step q room (event t2 request)) → Sends q (p_delay_resp_of (sender_of q.config) h t2) (step q room (event t2 request))
@@ -104,6 +106,8 @@ module _ (s : Sender) where
     follow_up_heard t3 e =
         carries (follow_stamp t3) _ _ _ m bytes (carrying_is (follow_stamp t3) _ m e)
         (pdelay_resp_follow_up_sends s l request.id widths.id request.source widths.source t3 m e) sent (follow_means t3)
+
+-- ---- the requester, with a peer exchange of that id whose send stamp stands
 
 -- the requester's sum, put together with what answer and follow-up mean
 way_is : (t1 t4 w c f cut₂ cut₃ asked : ℤ) → w -ℤ c ≡ cut₂ -ℤ asked → f ≡ cut₃ → ((t4 -ℤ c) -ℤ t1) -ℤ (f -ℤ w) ≡ (t4 -ℤ t1) -ℤ (cut₃ -ℤ cut₂) -ℤ asked

@@ -92,6 +92,8 @@ module _ (R : Outcome → Type 0) (sum : Worked Time) (s : Comes Anything R sum)
       all_waited (eqb held h.id) c (λ t. PeerState.Measuring held (MaybeIdentity.Some h.source) a b (MaybeTime.Some t) d)
   all_responded_later h (PeerState.Measured held r) = tt
 
+-- ---- received messages
+
 module _ (P : Done → Type 0) (R : Outcome → Type 0) (range : R Outcome.Range) (p : Port) where
   module _ (idle : P (changed p false)) where
     pub all_from_master : (h : Header) (rule : SlaveState → Worked Done) → ((s : SlaveState) → p.state ≡ PortState.Slave s → Comes P R (rule s)) → Comes P R (from_master p h rule)

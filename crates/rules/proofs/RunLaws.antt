@@ -20,6 +20,8 @@ use Rattle.rules.proofs.StoredLaws.{less_is, plus_is}
 use Rattle.rules.proofs.RefusalLaws.{taken_has}
 use Rattle.rules.specs.RunLaws.{Taken, AfterTwo, AfterThree, Part, Turns}
 
+-- ---- an exchange as a part of the record, and what is measured once it is stored in a fit one
+
 -- one of a Slave's two
 abbrev slave_part : (p : Port) (put : Exchange → SlaveState) (measure : Port → SlaveState → Time → Time → Worked Done) → ((x y : Exchange) → Open (with_slave p (put x)) → settle (with_slave p (put y)) ≡ complete y (nothing (with_slave p (put y))) (measure (with_slave p (put y)) (put y))) → Part Exchange
 slave_part p put measure settles =
@@ -42,6 +44,8 @@ peer_part p =
       measure = λ x. peer_complete x (nothing (with_peer p x)) (measure_peer (with_peer p x));
       settles = λ x y fit. settle_peer p y (fit_open (with_peer p x) fit).slave;
     }
+
+-- ---- an event turns an exchange into another, by a time that is worth so much: what all endings of the new one have, the answer has
 
 -- the rule works out a sum and stores the new exchange
 pub turns : {X : Type 0} (k : Part X) {x : X} {e : Event} {z : ℤ} {new : Time → X} (sum : Worked Time) → All (λ t. time t ≡ z) sum → ((P : Done → Type 0) → All P (sum then λ t. settle (k.store (new t))) → All P (rule_of (k.store x) e)) → Turns k x e z new

@@ -44,6 +44,8 @@ module _ (t : Time) (ns : List Number) where
   unfolding time
   late h = failed _ (outside ns) (seconds_in (units_of t / 2 ^ 32 / 10 ^ 9) ∙ le-ltb (units_of t / 2 ^ 32 / 10 ^ 9) (2 ^ 48) (long (units_of t) h))
 
+-- ---- what is carried: nothing exactly where a field is out of range
+
 -- from both directions of a law
 carries : (ns : List Number) (x : Carried) → ((outside ns ≡ true → x ≡ Carried.Out)) → (x ≡ Carried.Out → outside ns ≡ true) → Carries ns x
 carries ns (Carried.Value w c) f g = go (outside ns) refl

@@ -222,6 +222,8 @@ in_order (Action.SendGeneral l ∷ xs) e f =
     let (n, g) = both_hold (one_is is_timer xs) (timers_first xs) f in
     packet_behind (Action.SendGeneral l) xs (no_timers xs n) (in_order xs e g)
 
+-- ---- a taken event
+
 module _ (p : Port) (room : ℕ) (e : Event) where
   taken_does : (k : IsTaken p room e) → Does p.config (due p e) (timers_due p e) k.done
   taken_does k =

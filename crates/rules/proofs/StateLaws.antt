@@ -31,6 +31,8 @@ use Rattle.rules.proofs.CompletingLaws.{response_completes_lem, follow_up_comple
 use Rattle.rules.proofs.RefusalLaws.{taken_has}
 use Rattle.rules.specs.StateLaws.{Quiet, Turns, TurnsBy, AfterState}
 
+-- ---- what a message or a stamp does to state and reset
+
 as_turns : (p : Port) (two two' back back' : Bool) (d : Done) → two' ≡ two → back' ≡ back → Turns p two back d → Turns p two' back' d
 as_turns p two two' back back' d e f k =
     record {
@@ -202,6 +204,8 @@ module _ (p : Port) (fit : IsFit p) where
   general_read (Reading.Host h) = refusing _ (ours p.config h) Outcome.Host Outcome.Foreign
   general_read Reading.Version = tt
   general_read Reading.Malformed = tt
+
+-- ---- all events
 
 set_number : (new : NewState) → state_number (state_of new) ≡ new_number new
 set_number NewState.Listening = refl

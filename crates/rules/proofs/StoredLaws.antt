@@ -14,6 +14,8 @@ use Rattle.rules.specs.AllLaws.{All, Silent, peer_done}
 use Rattle.rules.proofs.AllLaws.{all_is, all_map, all_silent, all_awaited}
 use Rattle.rules.specs.StoredLaws.{InTime, Stores, SyncOrFull, DelayOrFull, PeerOrDone}
 
+-- ---- corrected times are times
+
 summed : (z : ℤ) (a : TimeAnswer) → time_of z ≡ a → All (IsTime z) (a_time a)
 summed z (TimeAnswer.Value t) e = time_is z t e
 summed z TimeAnswer.Out e = tt
@@ -35,6 +37,8 @@ less_in_time t h = in_time_lem _ (less_correction t h) (less_is t h)
 pub plus_in_time : (t : Time) (h : Header) → All InTime (plus_correction t h)
 plus_in_time t h = in_time_lem _ (plus_correction t h) (plus_is t h)
 
+-- ---- what a change stores
+
 pub stores_is : {A : Type 0} (P : A → Type 0) (c : Change A) (x : A) → c ≡ becomes x → Stores P c → P x
 stores_is {A = A} P c x e k = subst (λ (y : Change A). Stores P y) e k
 
@@ -46,6 +50,8 @@ stores_cond P false c d k l = l
 all_stores : {A : Type 0} (P : A → Type 0) (is_open : Bool) (place : MaybeTime) (sum : Worked Time) (put : Time → A) → All InTime sum → ((t : Time) → InTime t → P (put t)) → All (Stores P) (awaited is_open place sum put)
 all_stores P is_open place sum put k f =
     all_awaited (Stores P) Silent is_open place sum put (all_silent sum) (λ e. tt) (λ t e g. f t (all_is InTime Silent sum t g k))
+
+-- ---- the exchanges of a Slave
 
 with_receive : (id : ℕ) (send : MaybeTime) (t : Time) → InTime t → SyncOrFull (Exchange.Measuring id send (MaybeTime.Some t))
 with_receive id MaybeTime.None t k e = k
@@ -102,6 +108,8 @@ delay_stamped_stores id t (Exchange.Measuring held send receive) k =
     stores_cond DelayOrFull (eqb held id) (cond (there send) stays (becomes (Exchange.Measuring held (MaybeTime.Some t) receive))) stays
     (stores_cond DelayOrFull (there send) stays (becomes (Exchange.Measuring held (MaybeTime.Some t) receive)) tt (delay_send held receive t k))
     tt
+
+-- ---- the peer exchange
 
 -- where the responder is known, all times there are all that is asked for
 done_full : (id : ℕ) (i : Identity) (a b c d : MaybeTime) → peer_done (PeerState.Measuring id (MaybeIdentity.Some i) a b c d) ≡ peer_full (PeerState.Measuring id (MaybeIdentity.Some i) a b c d)

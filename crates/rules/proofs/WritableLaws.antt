@@ -26,6 +26,8 @@ use Rattle.rules.proofs.SendingLaws.{Only, on_general_lem, on_event_lem, on_stam
 use Rattle.rules.proofs.ResponderLaws.{fit_sender}
 use Rattle.rules.specs.WritableLaws.{Writable, DoneWritable}
 
+-- ---- a message that any buffer of 64 bytes or more takes whole; where none is sent, nothing is said
+
 buffer_takes : (m : Message) (n : ℕ) → n ≤ 64 → Sendable m n → Writable (some m)
 buffer_takes m n small k room enough = k.writes room (omega (arith, small, enough)) ∙ ap W.Length (sym k.length_is)
 

@@ -15,6 +15,8 @@ pub record Carrying (x : Carries) (w : WireTimestamp) (correction : ℕ) : Type 
   pub correction_is : signed 64 correction ≡ correction_in x
   pub fits : correction < 2 ^ 64
 
+-- ---- no two messages tell the same
+
 -- a body is its type, its timestamp and its requester
 abbrev pub naming : Option Identity → Body → (Identity → Body) → Body
 naming none other f = other

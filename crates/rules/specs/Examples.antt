@@ -49,6 +49,8 @@ abbrev pub TimerIs : ℕ → ℕ → Type 0
 TimerIs draw timer =
     todos (run_of (slave 0) (delay_timer draw ∷ [])) ≡ (Action.ResetDelayRequestTimer timer ∷ Action.SendEvent (Context.DelayReq 0) false ∷ []) ∷ []
 
+-- ---- what is kept: the mean delay, which the offset is less; the last raw offset, which no mean delay changes
+
 -- Slave set again, with the same master, is emptied, with a reset: neither the open exchange nor the raw offset is left
 abbrev pub set_again : List Event
 set_again = event (ns 1000) (one_step_sync_of 7 900) ∷ event (ns 2000) (two_step_sync_of 8) ∷ set_state (NewState.Slave master) ∷ []

@@ -41,6 +41,8 @@ early = time_words (pos (1000 * 2 ^ 32 - 3))
 abbrev pub later : Time
 later = time_words (pos (1000 * 2 ^ 32 + 3))
 
+-- ---- slips
+
 -- a second responder is looked for before a duplicate: the state becomes Faulty, 3, with a reset; the exchange stays, so the first responder's follow-up completes it, and the port listens again, with a reset
 abbrev pub two_answers : List Event
 two_answers =

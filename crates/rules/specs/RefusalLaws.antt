@@ -12,6 +12,8 @@ use Rattle.rules.specs.Step.{rule_of, step}
 abbrev pub NotTaken : Outcome → Type 0
 NotTaken o = o ≡ Outcome.Taken → ⊥
 
+-- ---- a refusal changes nothing
+
 -- the same, part by part
 pub record Untouched (p : Port) (r : Result) : Type 0 where
   pub port : r.port ≡ p

@@ -16,6 +16,8 @@ pub record Sends (q : Port) (a : MessageAnswer) (r : Result) : Type 0 where
   pub sent : r.sent ≡ message_bytes message.header message.body
   pub port : r.port ≡ q
 
+-- ---- what it sends reads as it was made, and means its stamps
+
 -- bytes that carry a timestamp and a correction, and what these mean together
 pub record Carries (bytes : List ℕ) (header : ℕ → Header) (body : WireTimestamp → Body) (Means : WireTimestamp → ℕ → Type 0) : Type 0 where
   pub timestamp : WireTimestamp

@@ -6,6 +6,8 @@ use Rattle.rules.specs.Events.{Event, Done, Result, packet}
 use Rattle.rules.specs.Sending.{Due, due, timers_in, timers_due, Sends}
 use Rattle.rules.specs.Actions.{packet_for}
 
+-- ---- by rule: its message, and the timers among its actions
+
 pub record Does (c : Config) (x : Option Due) (timers : List Action) (d : Done) : Type 0 where
   pub message : Sends c x d.message
   pub set : timers_in d.actions ≡ timers

@@ -22,6 +22,8 @@ use Rattle.sent.specs.Laws.{IsCorrection}
 use Rattle.sent.proofs.Laws.{correction_is, correction_out_when, correction_out_is}
 use Rattle.sent.specs.CarriedLaws.{units_of, fraction_of, cut_to16, late_from, less_of, HasRoom, Parts, Scaled, stamp_of}
 
+-- ---- what was carried
+
 fraction_from : (a : WireAnswer) (w : WireTimestamp) (c : ℕ) → fraction a ≡ S.Value w c → a ≡ W.Value w c
 fraction_from (W.Value v f) w c e =
     let p : v ≡ w = cc in
@@ -96,6 +98,8 @@ module _ (asked : ℕ) (t : Time) (w : WireTimestamp) (c : ℕ) (e : answer_stam
       ap (λ (z : ℤ). pos x -ℤ z *ℤ pos 65536) answer_correction.value
       ∙ scaled x parts.f (signed 64 asked)
       ∙ ap (λ (z : ℤ). z -ℤ correction asked) whole
+
+-- ---- when something is carried, and when nothing
 
 pub follow_timely : (t : Time) → units_of t < late_from → follow_stamp t ≡ S.Value (stamp_of t) (fraction_of t)
 unfolding follow_stamp time

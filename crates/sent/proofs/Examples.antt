@@ -53,6 +53,8 @@ below_lowest : NoAnswers (2 ^ 63) (stamp 0x0001EF01)
 unfolding delay_resp_of p_delay_resp_of answer_stamp time wire_of signed correction_of
 below_lowest = (refl, refl)
 
+-- ---- seconds: one unit below 2 ^ 48 of them, and as many
+
 last_followed : bytes_in (follow_up_of us our_id sync_interval last) ≡ head 0xA8 44 0x00 (six 0x00 0xFF 0xFF) 0x3A 0x3B 0x02 0x3C ++ last_bytes
 unfolding follow_up_of follow_stamp time wire_of header_for message_bytes message_entries header_entries identity_entries timestamp_entries body_entries bytes_of spell
 last_followed = refl

@@ -31,6 +31,8 @@ use Rattle.sent.proofs.CarriedLaws.{follow_room, answer_room}
 use Rattle.time.specs.WireLaws.{read_in}
 use Rattle.sent.specs.SentLaws.{InLimits, Sendable, Made}
 
+-- ---- limits
+
 -- a sdo id's high four bits, and its low eight
 sdo_halves : (n : ℕ) → n < 4096 → (n / 256 < 16) × (n % 256 < 256)
 sdo_halves n h = (omega arith, omega arith)
@@ -58,6 +60,8 @@ header_fits s t b flags correction id interval l same f time g c i v =
       each = (halves_small (s.sdo / 256) (row t).number major (row_bounds t).number, (halves_small s.minor 2 l.minor (lit< tt), ((row_bounds t).length, (l.domain, (minor_sdo, (g, (c, (lit< tt, (l.identity.clock, (l.identity.port, (i, ((row_bounds (type_of b)).control, (v, f)))))))))))));
       timed = time;
     }
+
+-- ---- what is made can be sent
 
 pub carrying_is : (x : Carried) (message : WireTimestamp → ℕ → Message) (m : Message) → carrying x message ≡ A.Value m → Made x message m
 carrying_is (S.Value w c) message m e = record { timestamp = w; correction = c; carried = refl; made = cc }

@@ -75,11 +75,15 @@ abbrev pub bytes_in : MessageAnswer → List ℕ
 bytes_in (A.Value m) = bytes m
 bytes_in A.Out = []
 
+-- ---- the seven messages
+
 -- both answers to a request with this correction that came at t: their own correction, and the timestamp
 abbrev pub Answers : ℕ → Time → List ℕ → List ℕ → Type 0
 Answers correction t own timestamp =
     (bytes_in (delay_resp_of us (asks correction) delay_interval t) ≡ head 0xA9 54 0x00 own 0x5B 0x5C 0x03 0x3D ++ timestamp ++ requester_bytes)
     × (bytes_in (p_delay_resp_of us (asks correction) t) ≡ head 0xA3 54 0x02 own 0x5B 0x5C 0x05 0x7F ++ timestamp ++ requester_bytes)
+
+-- ---- an answer's correction: above zero, below it, and the lowest that 64 bits hold
 
 -- neither of them is made
 abbrev pub NoAnswers : ℕ → Time → Type 0

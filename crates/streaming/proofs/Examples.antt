@@ -47,6 +47,8 @@ pub cut_long : scan false false 64 (0x13 ∷ 1 ∷ 0 ∷ []) ≡ bad 64
 unfolding number stated_of possible cut_of front_of scan_from scan
 cut_long = refl
 
+-- ---- the other kinds, each with its size
+
 pub kinds : scan true false 36 three ≡ next (general []) 6 (next stamped 38 (next (delay_timer 256) 14 good))
 unfolding number identity_at time_at inner_of context_at general_of stamp_of delay_timer_of field_of stated_of none_of front_of scan_from scan
 kinds = refl

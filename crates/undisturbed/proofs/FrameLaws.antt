@@ -67,6 +67,8 @@ module _ {L R Z S E A : Type 0} {put : L → R → Z → S} {act : S → E → S
   behind_last : {l0 l m : L} {r : R} {z y : Z} {hs rest : List (Item E)} {ks more : List (Item (E × A))} {e : E} {a : A} {t : S} (p : Place) → Behind put act FitL FitR l0 hs ks l → FitR r → act (put l r z) e ≡ (put m r y, a) → Leads act (put m r y) rest more t → Leads act (put l0 r z) (hs ++ (placed p e ∷ rest)) (ks ++ (placed p (e, a) ∷ more)) t
   behind_last {r = r} {z} p b fr does g = leads_then (b.held r z fr) (leads_by does g)
 
+-- ---- the induction
+
 -- x and y are the two sides of what stands, mk x y z, and z is what both share; i says which request is open or comes next
 module _ {X Y Z I S E A C M : Type 0} (mk : X → Y → Z → S) (act : S → E → S × A) (FitX : X → Type 0) (FitY : I → Y → Type 0) (next : I → I)
     (Ok : Place → E × A → Type 0) (measured : A → List M) (Says : S → C → A → S → Type 0) (nothing : C) (due : Lane → List E → C)

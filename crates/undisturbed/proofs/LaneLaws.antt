@@ -29,6 +29,8 @@ use Rattle.undisturbed.specs.TimesLaws.{overlap, finished, Bag, HoldsAll, FillsA
 use Rattle.undisturbed.proofs.TimesLaws.{times_snoc, fills_hold}
 use Rattle.undisturbed.specs.LaneLaws.{Ok, replied, Rest}
 
+-- ---- an exchange as its proof takes it: each event brings what is missing, and the last what is missing last
+
 module _ (c : Config) (master : Identity) (room : ℕ) (k : Lane) {L R I : Type 0} (put : L → R → Shared → Port) (FitL : I → L → Type 0) (FitR : R → Type 0) (next : I → I) where
   -- what an event does to the bag v: behind a test it works out a time, and stores what it brings
   pub record Stores (holding : Bag → L) (e : Event) (v : Bag) : Type 0 where

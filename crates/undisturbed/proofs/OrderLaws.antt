@@ -19,6 +19,8 @@ use Rattle.undisturbed.proofs.TimesLaws.{times_snoc}
 use Rattle.undisturbed.specs.LaneLaws.{Brought, Rest}
 use Rattle.undisturbed.specs.OrderLaws.{Shape, is_given, shape_of, or_shape, meets, two_there, four_there, every_pick, is_none, alike, OfAny}
 
+-- ---- which times are there
+
 given_both : (a b : Option ℤ) → both_given a b ≡ (is_given a && is_given b)
 given_both none b = refl
 given_both (some x) none = refl
@@ -56,6 +58,8 @@ peer_finished t =
     finished_given t.request_receive _ _ (λ y.
     finished_given t.response_send _ _ (λ z.
     finished_given t.receive _ true (λ u. refl) ∙ and-true (is_given t.receive))))
+
+-- ---- every order of given pieces, tried one by one
 
 picked : (f : Piece → List Piece → Bool) (p : Piece) (ps left : List Piece) → Picks p ps left → every_pick f ps ≡ true → f p left ≡ true
 picked f p ps left (this_one q qs) e = (both (f q qs) _ e).0

@@ -17,6 +17,8 @@ use Rattle.undisturbed.specs.OutsideExamples.{measured_by, leaves, NotWoven, syn
 idle : (m : Mechanism) → Idle (with_slave (set_up m 10) (slave_of master)) (slave_of master)
 idle m = record { slave = refl; no_sync = refl; no_delay = refl; no_peer = refl }
 
+-- ---- two exchanges of one kind that overlap. A port has one sync exchange at a time: each message here replaces what the one before it opened, and none is measured. One after another both are. (A place does not say which of two exchanges of its kind an event is of, so they stand together by hand: `gather` moves nothing here.)
+
 pub overlapped : (measured_by (slave 10) overlapping ≡ []) × (measured_by (slave 10) one_after_another ≡ sync7_is ∷ sync8_is ∷ [])
 unfolding run_of happens buffer_after log_of found
 overlapped = (refl, refl)
@@ -29,6 +31,8 @@ pub overlapped_stays : gather overlapping ≡ overlapping
 unfolding gather_from
 overlapped_stays = refl
 
+-- ---- the state set within an exchange, even to the same one: the Slave begins anew, with nothing open. Gathered, the exchange stands behind it
+
 pub state_set : (measured_by (slave 10) slave_again ≡ []) × (measured_by (slave 10) (gather slave_again) ≡ sync7_is ∷ [])
 unfolding run_of happens buffer_after log_of found gather_from
 state_set = (refl, refl)
@@ -36,6 +40,8 @@ state_set = (refl, refl)
 pub state_set_not_woven : NotWoven (slave 10) slave_again
 unfolding run_of happens buffer_after log_of Each
 state_set_not_woven w = (others_stand (slave 10) (slave_of master) (idle Mechanism.EndToEnd) buffer slave_again w).once.1.1.0
+
+-- ---- an answer that comes after the next request: that request has replaced the exchange, and the first one's DelayResp does nothing
 
 pub late_response_lem : (measured_by (slave 10) late_response ≡ delay1_is ∷ []) × (measured_by (slave 10) response_in_time ≡ delay0_is ∷ delay1_is ∷ [])
 unfolding run_of happens buffer_after log_of found
@@ -52,6 +58,8 @@ unanswered_gathered = (refl, refl, refl, refl)
 pub unanswered_not_woven : NotWoven (slave 10) unanswered
 unfolding run_of happens buffer_after log_of Each
 unanswered_not_woven w = (others_stand (slave 10) (slave_of master) (idle Mechanism.EndToEnd) buffer unanswered w).once.1.1.1.0
+
+-- ---- peer-to-peer: an answer of a second responder, after the exchange is measured, makes the port Faulty, 3, and the Sync that follows is not heard
 
 pub late_answer_lem : (leaves peer_slave (measured0 (late_answer ∷ [])) ≡ 3) × (measured_by peer_slave (measured0 (late_answer ∷ sync_last sync9 ∷ [])) ≡ peer0_is ∷ []) × (measured_by peer_slave (measured0 (sync_last sync9 ∷ [])) ≡ peer0_is ∷ sync9_is ∷ [])
 unfolding run_of happens buffer_after log_of end_of found
@@ -71,6 +79,8 @@ unfolding run_of happens buffer_after log_of found gather_from
 late_answer_after_next_not_woven w =
     true≢false (ap (λ (ms : List Measurement). eqb (length ms) 2) (others_stand peer_slave (slave_of master) (idle Mechanism.Peer) buffer after_next w).order)
 
+-- ---- what is left in the buffer: it is that of the packet written last, which the gathered run may write earlier. Here the answer to a PDelayReq, 0xA3 in its first byte, and the request, 0xA1. (Each event's own packet is the same in both.)
+
 pub asked_within_lem : Woven NothingElse (slave 10) (slave_of master) buffer asked_within
 unfolding run_of happens buffer_after log_of lane joined Each SyncExchanges RequestExchanges AllStand small all_small
 asked_within_lem =
@@ -89,6 +99,8 @@ asked_within_lem =
 pub buffer_left : (first_byte asked_within ≡ 0xA3 ∷ []) × (first_byte (gather asked_within) ≡ 0xA1 ∷ [])
 unfolding run_of happens buffer_after end_of gather_from
 buffer_left = (refl, refl)
+
+-- ---- foreign traffic that is answered 4, 5, 6 or 8, and not 3: one byte, with a time that is none
 
 is_message : Reading → Bool
 is_message (Reading.Message h b t) = true

@@ -52,6 +52,8 @@ use Rattle.undisturbed.proofs.RequestSideLaws.{asks, AskingExchange, AskingGoes,
 use Rattle.undisturbed.proofs.DelaySideLaws.{none_open}
 use Rattle.undisturbed.specs.PeerSideLaws.{heard_of, known_by}
 
+-- ---- the responder is known as soon as a time came from him
+
 known_only : (source i : Identity) → i ≡ source → (b : Bool) → OnlyBy source (cond b (MaybeIdentity.Some i) MaybeIdentity.None)
 known_only source i e true = e
 known_only source i e false = tt

@@ -13,6 +13,8 @@ use Rattle.undisturbed.specs.Undisturbed.{reply_with, happens, FormulaSays}
 use Rattle.rules.proofs.BufferLaws.{buffer_length}
 use Rattle.undisturbed.specs.PlainLaws.{plain_reply, plain, PlainSays}
 
+-- ---- a run of which only the buffer's room is known
+
 -- the packet stands at the buffer's front
 reply_plain : (r : Result) (l : List ℕ) → reply_with r (buffer_after r l) ≡ plain_reply r
 unfolding buffer_after

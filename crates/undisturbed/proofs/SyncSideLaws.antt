@@ -44,6 +44,8 @@ use Rattle.undisturbed.specs.OrderLaws.{Shape, shape_of, no_shape, two_there, Of
 use Rattle.undisturbed.proofs.OrderLaws.{sync_finished, every_order, as_rest}
 use Rattle.undisturbed.specs.SyncSideLaws.{sync_with, holding_sync}
 
+-- ---- an exchange by its times; without any it is none
+
 two_step_fills : (id : ℕ) (s : MaybeTime) (t : Time) → two_step_sync id t (sync_with id s MaybeTime.None) ≡ becomes (sync_with id s (MaybeTime.Some t))
 unfolding two_step_sync
 two_step_fills id MaybeTime.None t = refl

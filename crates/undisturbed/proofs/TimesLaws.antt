@@ -41,8 +41,12 @@ times_snoc c [] e = then_none (times_in c e)
 times_snoc c (f ∷ es) e =
     ap (and_then (times_in c f)) (times_snoc c es e) ∙ sym (then_assoc (times_in c f) (times_of c es) (times_in c e))
 
+-- ---- times that are held
+
 pub none_held : HoldsAll no_times empty_bag
 none_held = record { send = tt; receive = tt; request_receive = tt; response_send = tt }
+
+-- ---- what an event stores: where it brings nothing, the time that was held; else a time worth what it brings
 
 filled_holds : (a b : Option ℤ) (m n : MaybeTime) → Holds a m → both_given a b ≡ false → Fills b m n → Holds (earlier_of a b) n
 filled_holds none none m n h o f = subst (Holds none) (sym f) h
@@ -116,6 +120,8 @@ module _ (made : ℤ → ℤ → Completed) (finishes : (x y : ℤ) → finished
   both_there (some x) (some y) (MaybeTime.Some t) MaybeTime.None h j e = absurd j
   both_there (some x) (some y) (MaybeTime.Some t) (MaybeTime.Some u) h j e =
       record { first = t; second = u; first_is = refl; second_is = refl; worth = λ i. made (sym h i) (sym j i) }
+
+-- ---- the four times of a peer exchange
 
 -- while one is missing, not all are there
 missing_here : (a : Option ℤ) (m : MaybeTime) (k : ℤ → Completed) (others : Bool) → Holds a m → finished (if_given a k) ≡ false → ((z : ℤ) → finished (k z) ≡ false → others ≡ false) → there m && others ≡ false

@@ -20,6 +20,8 @@ use Rattle.rules.specs.IeeeExamples.{small}
 use Rattle.rules.proofs.IeeeExamples.{small_bytes}
 use Rattle.undisturbed.specs.WovenExamples.{sync_part, sync_last, request_part, request_last, of_filter, of_others, small_in, all_small, outcome_in, sent_in, p, buffer, sync7, follow_up7, follow_up8, sync8, sync9, request65535, response65535, stamp65535, request0, stamp0, response0, mean_of30, one_byte, other_domain, announce, strangers_p_delay_req, p_delay_resp_stamp, strangers_sync, delay_resp_for_stranger, run, p_delay_resp, exchange7, exchange8, exchange9, answers65535, answers0}
 
+-- ---- words for runs: an event at its place
+
 pub all_bytes : (run : List (Item Event)) → all_small run ≡ true → Each (λ place e. BytesIn e) run
 unfolding all_small Each
 all_bytes [] h = tt
@@ -33,6 +35,8 @@ all_bytes (placed place e ∷ es) h = (one e (both (small_in e) (all_small es) h
     one (delay_timer draw) h = tt
     one (filter_answer update) h = tt
     one (set_state state) h = tt
+
+-- ---- the run: sync exchange 7 stands within the first request exchange, 8 begins within it and ends within the second, 9 stands within the second
 
 -- gathered: each exchange stands together where its last event stood, and nothing else has moved
 pub gathered : gather run ≡ of_others one_byte ∷ of_others strangers_p_delay_req ∷ sync_part sync7 ∷ sync_last follow_up7 ∷ of_others p_delay_resp_stamp ∷ of_filter mean_of30 ∷ of_others strangers_sync ∷ request_part request65535 ∷ request_part response65535 ∷ request_last stamp65535 ∷ of_others other_domain ∷ of_others delay_resp_for_stranger ∷ sync_part follow_up8 ∷ sync_last sync8 ∷ of_others announce ∷ sync_last sync9 ∷ request_part request0 ∷ request_part stamp0 ∷ request_last response0 ∷ []

@@ -17,6 +17,8 @@ use Rattle.undisturbed.specs.WovenExamples.{sync_part, sync_last, request_part, 
 use Rattle.undisturbed.proofs.WovenExamples.{all_bytes, the_other_way, not_master, not_us, syncs_whole}
 use Rattle.undisturbed.specs.WovenPeerExamples.{p, request65535, follow_up65535, response65535, stamp65535, request0, response0, stamp0, answer_to_master, follow_up_to_master, strangers_follow_up, strangers_delay_resp, cut_short, run, answers65535, answers0}
 
+-- ---- the run
+
 pub gathered : gather run ≡ of_others one_byte ∷ of_others strangers_p_delay_req ∷ of_others answer_to_master ∷ sync_part sync7 ∷ sync_last follow_up7 ∷ of_others p_delay_resp_stamp ∷ of_others cut_short ∷ of_others strangers_follow_up ∷ of_filter mean_of30 ∷ of_others follow_up_to_master ∷ request_part request65535 ∷ request_part follow_up65535 ∷ request_part response65535 ∷ request_last stamp65535 ∷ of_others strangers_sync ∷ of_others other_domain ∷ sync_part follow_up8 ∷ sync_last sync8 ∷ of_others delay_resp_for_stranger ∷ of_others strangers_delay_resp ∷ of_others announce ∷ sync_last sync9 ∷ request_part request0 ∷ request_part response0 ∷ request_last stamp0 ∷ []
 unfolding gather_from
 gathered = refl

@@ -3,6 +3,8 @@
 -- ---- the induction
 
 -- fit for one exchange or another
+-- ---- the induction
+
 abbrev pub FitAny : {I Y : Type 0} → (I → Y → Type 0) → Y → Type 0
 FitAny {I} FitY y = (i : I) × FitY i y
 

@@ -160,9 +160,13 @@ run =
     ∷ request_last response0
     ∷ []
 
+-- ---- what is measured, in order: raw 90, no mean being stored yet; raw 30, and half of what 90 is above it; raw 190, and less the mean; raw 90, and less the mean; raw 40, and half of what the last raw offset is above it
+
 -- what is sent, in order: the first request, with the last id; the answer to the PDelayReq, of 54 bytes, and its follow-up; the second request, with the first id
 abbrev pub p_delay_resp : List ℕ
 p_delay_resp = message us two_step_flag 0 40 (Body.PDelayResp (wire_ns 1100) stranger)
+
+-- ---- the run meets what demand 3 asks: each event of an exchange is what its bytes read as, from whom and with which id
 
 abbrev pub exchange7 : List (Item Event)
 exchange7 = sync_part sync7 ∷ sync_last follow_up7 ∷ []

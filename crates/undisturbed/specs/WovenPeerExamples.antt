@@ -88,6 +88,8 @@ run =
     ∷ request_last stamp0
     ∷ []
 
+-- ---- the run meets what demand 3 asks
+
 abbrev pub answers65535 : List (Item Event)
 answers65535 = request_part follow_up65535 ∷ request_part response65535 ∷ request_last stamp65535 ∷ []
 

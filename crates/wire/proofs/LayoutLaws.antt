@@ -87,6 +87,8 @@ length_message h b =
     ap length (head_then_body h b) ∙ length-append (bytes_of (header_entries h (row (type_of b)).control)) (bytes_of (body_entries 0 b))
     ∙ omega (arith, length_header h (row (type_of b)).control, n, body_size 0 b)
 
+-- ---- the types
+
 pub row_bounds : (t : MessageType) → RowBounds t
 row_bounds M.Sync = record { number = lit< tt; control = lit< tt; length = lit< tt; stamped = lit≤ tt }
 row_bounds M.DelayReq = record { number = lit< tt; control = lit< tt; length = lit< tt; stamped = lit≤ tt }
@@ -149,6 +151,8 @@ timestamp_body M.PDelayResp l = refl
 timestamp_body M.FollowUp l = refl
 timestamp_body M.DelayResp l = refl
 timestamp_body M.PDelayRespFollowUp l = refl
+
+-- ---- what is read of bytes has the widths of its places
 
 pub identity_widths : (at : ℕ) (l : List ℕ) → Bytes l → InWidths (identity_at at l)
 unfolding identity_at
