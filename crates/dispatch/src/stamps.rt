@@ -6,13 +6,13 @@ ghost use Rattle.handling.specs.Handling.{handled_of};
 
 use handling::Handled;
 use master::Answering;
-use record::{Context, Port};
+use record::{Context, Outcome, Port};
 use slave::Measuring;
 use time::Time;
 
 // The bounds that a context's types give are promised here, where its parts are taken out.
-pub fn on_stamp(port: Port, context: Context, timestamp: Time) -> Handled
-    ensures { (result ≡ handled_of port (stamped port timestamp context)) × StampIn context }
+pub fn on_stamp(port: Port, context: Context, timestamp: Time) -> Result<Handled, Outcome>
+    ensures { (result ≡ handled_of (stamped port timestamp context)) × StampIn context }
 {
     let slave = Measuring { port };
     let master = Answering { port };

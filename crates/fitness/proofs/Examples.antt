@@ -1,10 +1,8 @@
 -- Witnesses, each computed: for every clause of row 2 a record that is unfit by it alone, beside a neighbour that is fit; what row 2 does not list; and what row 3 does at its edges.
-use Rattle.std.specs.Prelude.{◌-◌, ◌^◌, ◌≡◌, refl, true, false}
+use Rattle.std.specs.Prelude.{◌-◌, ◌^◌, ◌≡◌, refl, true, false, Some, None}
 use Rattle.time.specs.declared.Duration.{Duration}
 use Rattle.time.specs.Units.{time, in_time, signed}
 use Rattle.timers.specs.Timers.{interval, in_interval, in_draw}
-use Rattle.record.specs.declared.MaybeTime.TheVariants.{None, Some}
-use Rattle.record.specs.declared.MaybeDuration.{MaybeDuration}
 use Rattle.record.specs.declared.Exchange.{Exchange}
 use Rattle.record.specs.declared.PortState.{PortState}
 use Rattle.record.specs.declared.PeerState.{PeerState}
@@ -122,7 +120,7 @@ peer_full_lem = (refl, refl, refl, refl, refl)
 -- ---- what row 2 does not list
 
 -- any two words are a duration
-durations_any : (asymmetry mean raw : Duration) → unfit (record { config = configured Mechanism.Peer 0 0 256 0 asymmetry; state = PortState.Slave (record { master = someone; sync = Exchange.Empty; delay = Exchange.Empty; raw = MaybeDuration.Some raw }); peer = PeerState.Empty; mean = MaybeDuration.Some mean; ids = record { sync = 0; delay = 0; peer = 0 } }) ≡ false
+durations_any : (asymmetry mean raw : Duration) → unfit (record { config = configured Mechanism.Peer 0 0 256 0 asymmetry; state = PortState.Slave (record { master = someone; sync = Exchange.Empty; delay = Exchange.Empty; raw = Some raw }); peer = PeerState.Empty; mean = Some mean; ids = record { sync = 0; delay = 0; peer = 0 } }) ≡ false
 unfolding unfit config_out interval_out sdo_out minor_out interval in_interval signed
 durations_any asymmetry mean raw = refl
 

@@ -1,5 +1,5 @@
 -- Laws of fitness: what a fit record holds, constructor by constructor, and that it is the same as not being unfit.
-use Rattle.std.specs.Prelude.{ℕ, ◌<◌, ◌≡◌, refl, true, false, ◌||◌, not, List, [], ◌∷◌, ◌++◌}
+use Rattle.std.specs.Prelude.{ℕ, ◌<◌, ◌≡◌, refl, true, false, ◌||◌, not, List, [], ◌∷◌, ◌++◌, Option, Some, None}
 use Rattle.std.proofs.Common.{sym, ◌∙◌, true≢false, arith, ltb-false, le-ltb}
 use Rattle.std.proofs.Math.Bool.{or_assoc, or-false}
 use Rattle.std.proofs.lemmas.Bool.{not-false}
@@ -7,8 +7,6 @@ use Rattle.octets.proofs.BytesLaws.{neither}
 use Rattle.time.specs.declared.Time.{Time}
 use Rattle.time.specs.Units.{time, in_time}
 use Rattle.timers.specs.Timers.{interval, in_interval}
-use Rattle.record.specs.declared.MaybeTime.{MaybeTime}
-use Rattle.record.specs.declared.MaybeIdentity.{MaybeIdentity}
 use Rattle.record.specs.declared.Exchange.{Exchange}
 use Rattle.record.specs.declared.PortState.{PortState}
 use Rattle.record.specs.declared.PeerState.{PeerState}
@@ -18,6 +16,7 @@ use Rattle.record.specs.Record.{port_of}
 use Rattle.fitness.specs.Fit.{held_time, times_in, slave_times, peer_times, time_out, any_out, interval_out, sdo_out, minor_out, timeless, unanswered, full, peer_full, sync_timeless, slave_full, config_out, unfit}
 use Rattle.record.specs.JoinedLaws.{all_false, none_true}
 use Rattle.fitness.specs.FitLaws.{FitTime, FitSync, FitDelay, FitState, IsFit, FitConfig, row_clauses}
+use Rattle.wire.specs.declared.Identity.{Identity}
 
 -- ---- times
 
@@ -32,45 +31,45 @@ none_out xs ys e = neither (any_out xs) (any_out ys) (sym (out_joined xs ys) ∙
 none_joined : (xs ys : List Time) → any_out xs ≡ false → any_out ys ≡ false → any_out (xs ++ ys) ≡ false
 none_joined xs ys e f = out_joined xs ys ∙ simp (e, f)
 
-pub held_is : (t : MaybeTime) → any_out (held_time t) ≡ false → FitTime t
+pub held_is : (t : Option Time) → any_out (held_time t) ≡ false → FitTime t
 unfolding time_out
-held_is MaybeTime.None e = tt
-held_is (MaybeTime.Some t) e = not-false (in_time (time t)) (sym (or-false (not (in_time (time t)))) ∙ e)
+held_is None e = tt
+held_is (Some t) e = not-false (in_time (time t)) (sym (or-false (not (in_time (time t)))) ∙ e)
 
-pub held_when : (t : MaybeTime) → FitTime t → any_out (held_time t) ≡ false
+pub held_when : (t : Option Time) → FitTime t → any_out (held_time t) ≡ false
 unfolding time_out
-held_when MaybeTime.None e = refl
-held_when (MaybeTime.Some t) e = simp e
+held_when None e = refl
+held_when (Some t) e = simp e
 
 -- ---- the exchanges of a Slave
 
 sync_is : (x : Exchange) → any_out (times_in x) ≡ false → timeless x ≡ false → full x ≡ false → FitSync x
 sync_is Exchange.Empty a b c = tt
-sync_is (Exchange.Measuring id MaybeTime.None MaybeTime.None) a b c = true≢false b
-sync_is (Exchange.Measuring id MaybeTime.None (MaybeTime.Some r)) a b c = held_is (MaybeTime.Some r) a
-sync_is (Exchange.Measuring id (MaybeTime.Some s) MaybeTime.None) a b c = held_is (MaybeTime.Some s) a
-sync_is (Exchange.Measuring id (MaybeTime.Some s) (MaybeTime.Some r)) a b c = true≢false c
+sync_is (Exchange.Measuring id None None) a b c = true≢false b
+sync_is (Exchange.Measuring id None (Some r)) a b c = held_is (Some r) a
+sync_is (Exchange.Measuring id (Some s) None) a b c = held_is (Some s) a
+sync_is (Exchange.Measuring id (Some s) (Some r)) a b c = true≢false c
 
 sync_when : (x : Exchange) → FitSync x → (any_out (times_in x) ≡ false) × (timeless x ≡ false) × (full x ≡ false)
 sync_when Exchange.Empty h = (refl, refl, refl)
-sync_when (Exchange.Measuring id MaybeTime.None MaybeTime.None) h = absurd h
-sync_when (Exchange.Measuring id MaybeTime.None (MaybeTime.Some r)) h = (held_when (MaybeTime.Some r) h, refl, refl)
-sync_when (Exchange.Measuring id (MaybeTime.Some s) MaybeTime.None) h = (held_when (MaybeTime.Some s) h, refl, refl)
-sync_when (Exchange.Measuring id (MaybeTime.Some s) (MaybeTime.Some r)) h = absurd h
+sync_when (Exchange.Measuring id None None) h = absurd h
+sync_when (Exchange.Measuring id None (Some r)) h = (held_when (Some r) h, refl, refl)
+sync_when (Exchange.Measuring id (Some s) None) h = (held_when (Some s) h, refl, refl)
+sync_when (Exchange.Measuring id (Some s) (Some r)) h = absurd h
 
 delay_is : (x : Exchange) → any_out (times_in x) ≡ false → full x ≡ false → FitDelay x
 delay_is Exchange.Empty a c = tt
-delay_is (Exchange.Measuring id MaybeTime.None MaybeTime.None) a c = tt
-delay_is (Exchange.Measuring id MaybeTime.None (MaybeTime.Some r)) a c = held_is (MaybeTime.Some r) a
-delay_is (Exchange.Measuring id (MaybeTime.Some s) MaybeTime.None) a c = held_is (MaybeTime.Some s) a
-delay_is (Exchange.Measuring id (MaybeTime.Some s) (MaybeTime.Some r)) a c = true≢false c
+delay_is (Exchange.Measuring id None None) a c = tt
+delay_is (Exchange.Measuring id None (Some r)) a c = held_is (Some r) a
+delay_is (Exchange.Measuring id (Some s) None) a c = held_is (Some s) a
+delay_is (Exchange.Measuring id (Some s) (Some r)) a c = true≢false c
 
 delay_when : (x : Exchange) → FitDelay x → (any_out (times_in x) ≡ false) × (full x ≡ false)
 delay_when Exchange.Empty h = (refl, refl)
-delay_when (Exchange.Measuring id MaybeTime.None MaybeTime.None) h = (refl, refl)
-delay_when (Exchange.Measuring id MaybeTime.None (MaybeTime.Some r)) h = (held_when (MaybeTime.Some r) h, refl)
-delay_when (Exchange.Measuring id (MaybeTime.Some s) MaybeTime.None) h = (held_when (MaybeTime.Some s) h, refl)
-delay_when (Exchange.Measuring id (MaybeTime.Some s) (MaybeTime.Some r)) h = absurd h
+delay_when (Exchange.Measuring id None None) h = (refl, refl)
+delay_when (Exchange.Measuring id None (Some r)) h = (held_when (Some r) h, refl)
+delay_when (Exchange.Measuring id (Some s) None) h = (held_when (Some s) h, refl)
+delay_when (Exchange.Measuring id (Some s) (Some r)) h = absurd h
 
 -- what row 2 asks of the state: no time out of limits, no open sync without a time, no exchange with both
 state_is : (st : PortState) → any_out (slave_times st) ≡ false → sync_timeless st ≡ false → slave_full st ≡ false → FitState st
@@ -95,7 +94,7 @@ state_when (PortState.Slave s) (h, k) =
 
 -- ---- the peer exchange while it is open: its four times
 
-module _ (id : ℕ) (o : MaybeIdentity) (a b c d : MaybeTime) where
+module _ (id : ℕ) (o : Option Identity) (a b c d : Option Time) where
   pub peer_times_is : any_out (peer_times (PeerState.Measuring id o a b c d)) ≡ false → FitTime a × FitTime b × FitTime c × FitTime d
   peer_times_is e =
       let (f, w) = none_out (held_time a ++ held_time b ++ held_time c) (held_time d) e in

@@ -1,12 +1,8 @@
 -- What the laws of proofs/Examples.antt speak of.
-use Rattle.std.specs.Prelude.{ℕ, ◌-◌, ◌^◌, ◌≡◌, true, false}
+use Rattle.std.specs.Prelude.{ℕ, ◌-◌, ◌^◌, ◌≡◌, true, false, Option, Some, None}
 use Rattle.time.specs.declared.Time.{Time}
 use Rattle.time.specs.declared.Duration.{Duration}
 use Rattle.wire.specs.declared.Identity.{Identity}
-use Rattle.record.specs.declared.MaybeTime.{MaybeTime}
-use Rattle.record.specs.declared.MaybeTime.TheVariants.{Some}
-use Rattle.record.specs.declared.MaybeDuration.{MaybeDuration}
-use Rattle.record.specs.declared.MaybeIdentity.{MaybeIdentity}
 use Rattle.record.specs.declared.Exchange.{Exchange}
 use Rattle.record.specs.declared.PortState.{PortState}
 use Rattle.record.specs.declared.PeerState.{PeerState}
@@ -25,18 +21,18 @@ abbrev pub late_time : Time
 late_time = record { hi = 2 ^ 63; lo = 0 }
 
 -- a time far from both ends
-abbrev pub a_time : MaybeTime
+abbrev pub a_time : Option Time
 a_time = Some (record { hi = 5; lo = 6 })
 
 abbrev pub someone : Identity
 someone = record { clock = 0x0102030405060708; port = 9 }
 
 -- a responder, and none
-abbrev pub one_known : MaybeIdentity
-one_known = MaybeIdentity.Some someone
+abbrev pub one_known : Option Identity
+one_known = Some someone
 
-abbrev pub none_known : MaybeIdentity
-none_known = MaybeIdentity.None
+abbrev pub none_known : Option Identity
+none_known = None
 
 -- -2 ^ 127 units
 abbrev pub lowest_duration : Duration
@@ -61,20 +57,20 @@ set_up = configured Mechanism.EndToEnd 0 0 256 0 lowest_duration
 
 abbrev pub ported : Config → PortState → PeerState → Port
 ported config state peer =
-    record { config = config; state = state; peer = peer; mean = MaybeDuration.Some lowest_duration; ids = record { sync = 1; delay = 2; peer = 65535 } }
+    record { config = config; state = state; peer = peer; mean = Some lowest_duration; ids = record { sync = 1; delay = 2; peer = 65535 } }
 
 -- a Slave with these two exchanges
 abbrev pub slave_with : Exchange → Exchange → PortState
-slave_with sync delay = PortState.Slave (record { master = someone; sync = sync; delay = delay; raw = MaybeDuration.Some lowest_duration })
+slave_with sync delay = PortState.Slave (record { master = someone; sync = sync; delay = delay; raw = Some lowest_duration })
 
 -- the base with one part changed: an exchange open with these times, or the numbers of the configuration
-abbrev pub sync_open : MaybeTime → MaybeTime → Port
+abbrev pub sync_open : Option Time → Option Time → Port
 sync_open send receive = ported set_up (slave_with (Exchange.Measuring 7 send receive) Exchange.Empty) PeerState.Empty
 
-abbrev pub delay_open : MaybeTime → MaybeTime → Port
+abbrev pub delay_open : Option Time → Option Time → Port
 delay_open send receive = ported set_up (slave_with Exchange.Empty (Exchange.Measuring 7 send receive)) PeerState.Empty
 
-abbrev pub peer_open : MaybeIdentity → MaybeTime → MaybeTime → MaybeTime → MaybeTime → Port
+abbrev pub peer_open : Option Identity → Option Time → Option Time → Option Time → Option Time → Port
 peer_open responder a b c d = ported set_up PortState.Master (PeerState.Measuring 7 responder a b c d)
 
 abbrev pub with_numbers : ℕ → ℕ → ℕ → ℕ → Port

@@ -1,10 +1,8 @@
 -- Document 01, 'Numbers the port answers', row 2: when a record is unfit, clause by clause in the row's order. Nothing else makes it unfit.
-use Rattle.std.specs.Prelude.{ℕ, Bool, true, false, ◌&&◌, ◌||◌, not, List, [], ◌∷◌, ◌++◌, ltb}
+use Rattle.std.specs.Prelude.{ℕ, Bool, true, false, ◌&&◌, ◌||◌, not, List, [], ◌∷◌, ◌++◌, ltb, Option, Some, None}
 use Rattle.time.specs.declared.Time.{Time}
 use Rattle.time.specs.Units.{time, in_time}
 use Rattle.timers.specs.Timers.{interval, in_interval, in_draw}
-use Rattle.record.specs.declared.MaybeTime.{MaybeTime}
-use Rattle.record.specs.declared.MaybeIdentity.{MaybeIdentity}
 use Rattle.record.specs.declared.Exchange.{Exchange}
 use Rattle.record.specs.declared.PortState.{PortState}
 use Rattle.record.specs.declared.PeerState.{PeerState}
@@ -14,9 +12,9 @@ use Rattle.record.specs.Record.{as_slave}
 
 -- ---- the times that a record holds
 
-abbrev pub held_time : MaybeTime → List Time
-held_time MaybeTime.None = []
-held_time (MaybeTime.Some t) = t ∷ []
+abbrev pub held_time : Option Time → List Time
+held_time None = []
+held_time (Some t) = t ∷ []
 
 abbrev pub times_in : Exchange → List Time
 times_in Exchange.Empty = []
@@ -56,9 +54,9 @@ minor_out minor = ltb 1 minor
 
 -- ---- an exchange that no event leaves so
 
-abbrev pub there : MaybeTime → Bool
-there MaybeTime.None = false
-there (MaybeTime.Some t) = true
+abbrev pub there : Option Time → Bool
+there None = false
+there (Some t) = true
 
 -- a sync that is open though it has no time
 abbrev pub timeless : Exchange → Bool
@@ -68,9 +66,9 @@ timeless (Exchange.Measuring id send receive) = not (there send) && not (there r
 -- a peer exchange that is open, knows no responder, and yet holds a time that only a responder brings
 abbrev pub unanswered : PeerState → Bool
 unanswered PeerState.Empty = false
-unanswered (PeerState.Measuring id MaybeIdentity.None request_send request_receive response_send response_receive) =
+unanswered (PeerState.Measuring id None request_send request_receive response_send response_receive) =
     there request_receive || there response_send || there response_receive
-unanswered (PeerState.Measuring id (MaybeIdentity.Some i) request_send request_receive response_send response_receive) = false
+unanswered (PeerState.Measuring id (Some i) request_send request_receive response_send response_receive) = false
 unanswered (PeerState.Measured id responder) = false
 
 -- an exchange that lacks no time and was not taken out

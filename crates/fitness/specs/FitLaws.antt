@@ -1,37 +1,37 @@
 -- What the laws of proofs/FitLaws.antt speak of.
-use Rattle.std.specs.Prelude.{◌<◌, ◌≡◌, Bool, true, false, List, [], ◌∷◌}
+use Rattle.std.specs.Prelude.{◌<◌, ◌≡◌, Bool, true, false, List, [], ◌∷◌, Option, Some, None}
 use Rattle.time.specs.Units.{time, in_time}
 use Rattle.timers.specs.Timers.{interval, in_interval}
-use Rattle.record.specs.declared.MaybeTime.{MaybeTime}
 use Rattle.record.specs.declared.Exchange.{Exchange}
 use Rattle.record.specs.declared.PortState.{PortState}
 use Rattle.record.specs.declared.PeerState.{PeerState}
 use Rattle.record.specs.declared.Config.{Config}
 use Rattle.record.specs.declared.Port.{Port}
 use Rattle.fitness.specs.Fit.{peer_times, any_out, unanswered, peer_full, sync_timeless, slave_full, config_out}
+use Rattle.time.specs.declared.Time.{Time}
 
 -- ---- a fit record, part by part
 
 -- a time that is held is one
-abbrev pub FitTime : MaybeTime → Type 0
-FitTime MaybeTime.None = Unit {0}
-FitTime (MaybeTime.Some t) = in_time (time t) ≡ true
+abbrev pub FitTime : Option Time → Type 0
+FitTime None = Unit {0}
+FitTime (Some t) = in_time (time t) ≡ true
 
 -- a sync exchange that is open has one time, and not the other
 abbrev pub FitSync : Exchange → Type 0
 FitSync Exchange.Empty = Unit {0}
-FitSync (Exchange.Measuring id MaybeTime.None MaybeTime.None) = ⊥
-FitSync (Exchange.Measuring id MaybeTime.None (MaybeTime.Some r)) = in_time (time r) ≡ true
-FitSync (Exchange.Measuring id (MaybeTime.Some s) MaybeTime.None) = in_time (time s) ≡ true
-FitSync (Exchange.Measuring id (MaybeTime.Some s) (MaybeTime.Some r)) = ⊥
+FitSync (Exchange.Measuring id None None) = ⊥
+FitSync (Exchange.Measuring id None (Some r)) = in_time (time r) ≡ true
+FitSync (Exchange.Measuring id (Some s) None) = in_time (time s) ≡ true
+FitSync (Exchange.Measuring id (Some s) (Some r)) = ⊥
 
 -- a delay exchange that is open has at most one time
 abbrev pub FitDelay : Exchange → Type 0
 FitDelay Exchange.Empty = Unit {0}
-FitDelay (Exchange.Measuring id MaybeTime.None MaybeTime.None) = Unit {0}
-FitDelay (Exchange.Measuring id MaybeTime.None (MaybeTime.Some r)) = in_time (time r) ≡ true
-FitDelay (Exchange.Measuring id (MaybeTime.Some s) MaybeTime.None) = in_time (time s) ≡ true
-FitDelay (Exchange.Measuring id (MaybeTime.Some s) (MaybeTime.Some r)) = ⊥
+FitDelay (Exchange.Measuring id None None) = Unit {0}
+FitDelay (Exchange.Measuring id None (Some r)) = in_time (time r) ≡ true
+FitDelay (Exchange.Measuring id (Some s) None) = in_time (time s) ≡ true
+FitDelay (Exchange.Measuring id (Some s) (Some r)) = ⊥
 
 abbrev pub FitState : PortState → Type 0
 FitState PortState.Listening = Unit {0}

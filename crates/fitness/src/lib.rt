@@ -5,7 +5,7 @@
 ghost use Rattle.std.specs.Prelude.{◌≡◌, ◌||◌};
 ghost use Rattle.fitness.specs.Fit.{held_time, times_in, peer_times, slave_times, time_out, any_out, interval_out, draw_out, there, timeless, unanswered, full, peer_full, sync_timeless, slave_full, config_out, unfit};
 
-use record::{Config, Exchange, MaybeIdentity, MaybeTime, PeerState, Port, PortState};
+use record::{Config, Exchange, PeerState, Port, PortState};
 use time::Time;
 
 // Whether the words of a time have the top bit set.
@@ -38,21 +38,21 @@ fn config_out(config: Config) -> bool
     intervals | (sdo > 4095) | (minor > 1)
 }
 
-fn is_there(held: MaybeTime) -> bool
+fn is_there(held: Option<Time>) -> bool
     ensures { result ≡ there held }
 {
     match held {
-        MaybeTime::None => false,
-        MaybeTime::Some(_) => true,
+        None => false,
+        Some(_) => true,
     }
 }
 
-fn held_out(held: MaybeTime) -> bool
+fn held_out(held: Option<Time>) -> bool
     ensures { result ≡ any_out (held_time held) }
 {
     match held {
-        MaybeTime::None => false,
-        MaybeTime::Some(t) => time_out(t),
+        None => false,
+        Some(t) => time_out(t),
     }
 }
 
@@ -134,10 +134,10 @@ fn is_unanswered(peer: PeerState) -> bool
             response_send,
             response_receive,
         } => match responder {
-            MaybeIdentity::None => {
+            None => {
                 is_there(request_receive) | is_there(response_send) | is_there(response_receive)
             }
-            MaybeIdentity::Some(_) => false,
+            Some(_) => false,
         },
         PeerState::Measured {
             id: _,

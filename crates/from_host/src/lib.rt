@@ -1,37 +1,32 @@
 // What the host tells: the filter's answer, and a state.
 #![tactic(auto)]
 
-ghost use Rattle.std.specs.Prelude.{◌≡◌};
+ghost use Rattle.std.specs.Prelude.{◌≡◌, Ok};
 ghost use Rattle.rules.specs.Rules.{mean_given, state_of, filtered, state_set};
 ghost use Rattle.handling.specs.Handling.{handled_of};
 
 use handling::Handled;
-use record::{
-    Action, FilterUpdate, MaybeDuration, MaybeNanoseconds, NewState, Port, PortState, SlaveState,
-};
+use record::{Action, FilterUpdate, NewState, Port, PortState, SlaveState};
+use time::Duration;
 
 // A mean delay that the filter gives is kept; if it gives none the old one stays.
-fn with_mean(port: Port, mean: MaybeDuration) -> Port
+fn with_mean(port: Port, mean: Option<Duration>) -> Port
     ensures { result ≡ mean_given port mean }
 {
     match mean {
-        MaybeDuration::None => port,
-        MaybeDuration::Some(given) => port.with_mean(given),
+        None => port,
+        Some(given) => port.with_mean(given),
     }
 }
 
+#[tactic(auto, unfolding(rules::specs::Rules::filtered))]
 pub fn on_filter(port: Port, update: FilterUpdate) -> Handled
-    ensures { result ≡ handled_of port (filtered port update) }
+    ensures { Ok result ≡ handled_of (filtered port update) }
 {
-    let mean = update.mean_delay;
-    let next = update.next_update;
-    let kept = with_mean(port, mean);
-    match next {
-        MaybeNanoseconds::None => Handled::nothing(kept),
-        MaybeNanoseconds::Some(ns) => {
-            let timer = Action::ResetFilterUpdateTimer { ns };
-            Handled::timed(kept, timer)
-        }
+    let kept = with_mean(port, update.mean_delay);
+    match update.next_update {
+        None => Handled::nothing(kept),
+        Some(ns) => Handled::timed(kept, Action::ResetFilterUpdateTimer { ns }),
     }
 }
 
@@ -48,13 +43,12 @@ fn state_of(new: NewState) -> PortState
 }
 
 // Even the same state is begun anew. The filter is reset on leaving Slave or Faulty, and on entering Faulty.
+#[tactic(auto, unfolding(rules::specs::Rules::state_set))]
 pub fn on_state(port: Port, new: NewState) -> Handled
-    ensures { result ≡ handled_of port (state_set port new) }
+    ensures { Ok result ≡ handled_of (state_set port new) }
 {
-    let old = port.state;
     let state = state_of(new);
-    let left = old.number();
-    let entered = state.number();
-    let reset = (left == 4) | (left == 3) | (entered == 3);
+    let leaves = matches!(port.state, PortState::Slave(_) | PortState::Faulty);
+    let reset = leaves | matches!(state, PortState::Faulty);
     Handled::changed(port.with_state(state), reset)
 }

@@ -1,5 +1,5 @@
 -- Document 01, end of 'Event log': the line that a replay writes of an event, and the line at a bad field. Beside them the lines of `trace`, which show all of an answer and, at the end, of the record. Text is a list of ASCII numbers; single ones are 10 the newline, 32 the space, 44 the comma, 45 the dash, 58 the colon, 68 D, 80 P, 83 S.
-use Rattle.std.specs.Prelude.{ℕ, Bool, true, false, List, [], ◌∷◌, ◌++◌}
+use Rattle.std.specs.Prelude.{ℕ, Bool, true, false, List, [], ◌∷◌, ◌++◌, Option, Some, None}
 use Rattle.time.specs.declared.Time.{Time}
 use Rattle.time.specs.declared.Duration.{Duration}
 use Rattle.wire.specs.declared.Identity.{Identity}
@@ -8,10 +8,6 @@ use Rattle.record.specs.declared.Answer.{Answer}
 use Rattle.record.specs.declared.Context.{Context}
 use Rattle.record.specs.declared.Exchange.{Exchange}
 use Rattle.record.specs.declared.Ids.{Ids}
-use Rattle.record.specs.declared.MaybeDuration.{MaybeDuration}
-use Rattle.record.specs.declared.MaybeIdentity.{MaybeIdentity}
-use Rattle.record.specs.declared.MaybeMeasurement.{MaybeMeasurement}
-use Rattle.record.specs.declared.MaybeTime.{MaybeTime}
 use Rattle.record.specs.declared.Measurement.{Measurement}
 use Rattle.record.specs.declared.Outcome.{Outcome}
 use Rattle.record.specs.declared.PeerState.{PeerState}
@@ -19,7 +15,7 @@ use Rattle.record.specs.declared.Port.{Port}
 use Rattle.record.specs.declared.PortState.{PortState}
 use Rattle.record.specs.Answers.{number_of, first_actions}
 use Rattle.record.specs.Record.{state_number}
-use Rattle.rules.specs.Events.{Result}
+use Rattle.rules.specs.Events.{Answered}
 use Rattle.text.specs.Ascii.{ascii}
 use Rattle.text.specs.Digits.{decimal_of, hex_in, hex_of}
 use Rattle.lines.specs.declared.Style.{Style}
@@ -42,17 +38,17 @@ duration_text d = hex_in 16 d.hi ++ hex_in 16 d.lo
 abbrev pub identity_text : Identity → List ℕ
 identity_text i = hex_in 16 i.clock ++ hex_in 4 i.port
 
-unfoldable pub maybe_time : MaybeTime → List ℕ
-maybe_time MaybeTime.None = dash
-maybe_time (MaybeTime.Some t) = time_text t
+unfoldable pub maybe_time : Option Time → List ℕ
+maybe_time None = dash
+maybe_time (Some t) = time_text t
 
-unfoldable pub maybe_duration : MaybeDuration → List ℕ
-maybe_duration MaybeDuration.None = dash
-maybe_duration (MaybeDuration.Some d) = duration_text d
+unfoldable pub maybe_duration : Option Duration → List ℕ
+maybe_duration None = dash
+maybe_duration (Some d) = duration_text d
 
-unfoldable pub maybe_identity : MaybeIdentity → List ℕ
-maybe_identity MaybeIdentity.None = dash
-maybe_identity (MaybeIdentity.Some i) = identity_text i
+unfoldable pub maybe_identity : Option Identity → List ℕ
+maybe_identity None = dash
+maybe_identity (Some i) = identity_text i
 
 -- texts one behind the other: a colon, a comma, a space before each
 abbrev pub following : ℕ → List (List ℕ) → List ℕ
@@ -65,15 +61,15 @@ joined_by mark x xs = x ++ following mark xs
 
 -- ---- a measurement: its letter, the raw (for P the halved) value, event time, offset and delay
 
-unfoldable pub shown_of : MaybeMeasurement → Shown
-shown_of MaybeMeasurement.None =
-    record { letter = 45; value = MaybeDuration.None; time = MaybeTime.None; offset = MaybeDuration.None; delay = MaybeDuration.None }
-shown_of (MaybeMeasurement.Some (Measurement.Sync t raw offset)) =
-    record { letter = 83; value = MaybeDuration.Some raw; time = MaybeTime.Some t; offset = offset; delay = MaybeDuration.None }
-shown_of (MaybeMeasurement.Some (Measurement.Delay t raw delay)) =
-    record { letter = 68; value = MaybeDuration.Some raw; time = MaybeTime.Some t; offset = MaybeDuration.None; delay = delay }
-shown_of (MaybeMeasurement.Some (Measurement.Peer t delay)) =
-    record { letter = 80; value = MaybeDuration.Some delay; time = MaybeTime.Some t; offset = MaybeDuration.None; delay = MaybeDuration.None }
+unfoldable pub shown_of : Option Measurement → Shown
+shown_of None =
+    record { letter = 45; value = None; time = None; offset = None; delay = None }
+shown_of (Some (Measurement.Sync t raw offset)) =
+    record { letter = 83; value = Some raw; time = Some t; offset = offset; delay = None }
+shown_of (Some (Measurement.Delay t raw delay)) =
+    record { letter = 68; value = Some raw; time = Some t; offset = None; delay = delay }
+shown_of (Some (Measurement.Peer t delay)) =
+    record { letter = 80; value = Some delay; time = Some t; offset = None; delay = None }
 
 -- ---- actions
 
@@ -130,12 +126,12 @@ abbrev pub row : List (List ℕ) → List ℕ
 row [] = 10 ∷ []
 row (x ∷ xs) = joined_by 32 x xs ++ (10 ∷ [])
 
-unfoldable pub line_with : Style → ℕ → Outcome → MaybeMeasurement → List ℕ → List Action → Bool → List ℕ
+unfoldable pub line_with : Style → ℕ → Outcome → Option Measurement → List ℕ → List Action → Bool → List ℕ
 line_with Style.Replay n o m sent as' reset = row (replay_texts n o (shown_of m))
 line_with Style.Trace n o m sent as' reset = row (replay_texts n o (shown_of m) ++ trace_texts (shown_of m) sent as' reset)
 
 -- of what `step` answers
-abbrev pub line_of : Style → ℕ → Result → List ℕ
+abbrev pub line_of : Style → ℕ → Answered → List ℕ
 line_of style n r = line_with style n r.outcome r.measurement r.sent r.actions r.reset
 
 -- of an answer as the record holds it, with the packet's bytes

@@ -1,15 +1,11 @@
 -- Laws of lines: how long they are at most. A buffer with that much room takes a line whole.
-use Rattle.std.specs.Prelude.{ℕ, ◌+◌, ◌*◌, ◌≤◌, Bool, true, false, List, [], ◌∷◌, ◌++◌, length}
+use Rattle.std.specs.Prelude.{ℕ, ◌+◌, ◌*◌, ◌≤◌, Bool, true, false, List, [], ◌∷◌, ◌++◌, length, Option, Some, None}
 use Rattle.std.proofs.Common.{arith, length-append}
 use Rattle.wire.specs.declared.Identity.{Identity}
 use Rattle.record.specs.declared.Action.{Action}
 use Rattle.record.specs.declared.Context.{Context}
 use Rattle.record.specs.declared.Exchange.{Exchange}
 use Rattle.record.specs.declared.Ids.{Ids}
-use Rattle.record.specs.declared.MaybeDuration.{MaybeDuration}
-use Rattle.record.specs.declared.MaybeIdentity.{MaybeIdentity}
-use Rattle.record.specs.declared.MaybeMeasurement.{MaybeMeasurement}
-use Rattle.record.specs.declared.MaybeTime.{MaybeTime}
 use Rattle.record.specs.declared.Outcome.{Outcome}
 use Rattle.record.specs.declared.PeerState.{PeerState}
 use Rattle.record.specs.declared.Port.{Port}
@@ -21,6 +17,9 @@ use Rattle.text.specs.DigitsLaws.{length_decimal, length_hex, length-hex_of}
 use Rattle.lines.specs.declared.Style.{Style}
 use Rattle.lines.specs.declared.Shown.{Shown}
 use Rattle.lines.specs.Lines.{following, joined_by, maybe_time, maybe_duration, maybe_identity, identity_text, shown_of, context_text, link_text, action_text, actions_text, sent_text, reset_text, trace_texts, line_with, bad_line, exchange_text, peer_text, slave_texts, ids_text, end_line, last_line}
+use Rattle.time.specs.declared.Time.{Time}
+use Rattle.time.specs.declared.Duration.{Duration}
+use Rattle.record.specs.declared.Measurement.{Measurement}
 
 -- ---- sums of lengths
 
@@ -42,20 +41,20 @@ short_words hi lo = omega (arith, length-append (hex_in 16 hi) (hex_in 16 lo), l
 short_identity : (i : Identity) → length (identity_text i) ≤ 20
 short_identity i = omega (arith, length-append (hex_in 16 i.clock) (hex_in 4 i.port), length_hex 16 i.clock, length_hex 4 i.port)
 
-short_time : (t : MaybeTime) → length (maybe_time t) ≤ 32
+short_time : (t : Option Time) → length (maybe_time t) ≤ 32
 unfolding maybe_time
-short_time MaybeTime.None = omega arith
-short_time (MaybeTime.Some t) = short_words t.hi t.lo
+short_time None = omega arith
+short_time (Some t) = short_words t.hi t.lo
 
-short_duration : (d : MaybeDuration) → length (maybe_duration d) ≤ 32
+short_duration : (d : Option Duration) → length (maybe_duration d) ≤ 32
 unfolding maybe_duration
-short_duration MaybeDuration.None = omega arith
-short_duration (MaybeDuration.Some d) = short_words d.hi d.lo
+short_duration None = omega arith
+short_duration (Some d) = short_words d.hi d.lo
 
-short_maybe : (i : MaybeIdentity) → length (maybe_identity i) ≤ 20
+short_maybe : (i : Option Identity) → length (maybe_identity i) ≤ 20
 unfolding maybe_identity
-short_maybe MaybeIdentity.None = omega arith
-short_maybe (MaybeIdentity.Some i) = short_identity i
+short_maybe None = omega arith
+short_maybe (Some i) = short_identity i
 
 -- ---- actions
 
@@ -121,7 +120,7 @@ short_row : (n : ℕ) (more : List (List ℕ)) {k : ℕ} → length (following 3
 short_row n more h =
     omega (arith, length-append (joined_by 32 (decimal_of n) more) (10 ∷ []), length-append (decimal_of n) (following 32 more), short_decimal n, h)
 
-pub line_short : (style : Style) (n : ℕ) (o : Outcome) (m : MaybeMeasurement) (sent : List ℕ) (as' : List Action) (reset : Bool)
+pub line_short : (style : Style) (n : ℕ) (o : Outcome) (m : Option Measurement) (sent : List ℕ) (as' : List Action) (reset : Bool)
     → length as' ≤ 2 → length (line_with style n o m sent as' reset) ≤ 512 + 2 * length sent
 unfolding line_with
 line_short Style.Replay n o m sent as' reset h =

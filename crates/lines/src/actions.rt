@@ -1,95 +1,95 @@
 // An answer's actions as text.
-ghost use Rattle.text.specs.Page.{Wrote};
+#![tactic(auto, using(text::specs::PageLaws::typed_append))]
+
+ghost use Rattle.text.specs.Lent.{Writes};
 ghost use Rattle.record.specs.Answers.{first_actions};
 ghost use Rattle.lines.specs.Lines.{context_text, link_text, action_text, actions_text};
 
 use crate::values;
 use record::{Action, Answer, Context};
+use text::Page;
 
 // Kind and id, and a requester's identity.
-fn context(out: &mut [u8], at: usize, c: Context) -> usize
-    ensures { Wrote out.old at (context_text c) out.new result }
+#[tactic(auto, using(text::specs::PageLaws::typed_append), unfolding(crate::specs::Lines::context_text))]
+fn context(page: &mut Page, c: Context)
+    ensures { Writes page.old (context_text c) page.new }
 {
     match c {
         Context::Sync { id } => {
-            let a = text::put(out, at, b'0');
-            values::marked_id(out, a, b':', id)
+            page.copy(b"0:");
+            page.decimal(u64::from(id));
         }
         Context::DelayReq { id } => {
-            let a = text::put(out, at, b'1');
-            values::marked_id(out, a, b':', id)
+            page.copy(b"1:");
+            page.decimal(u64::from(id));
         }
         Context::PDelayReq { id } => {
-            let a = text::put(out, at, b'2');
-            values::marked_id(out, a, b':', id)
+            page.copy(b"2:");
+            page.decimal(u64::from(id));
         }
         Context::PDelayResp { id, requester } => {
-            let a = text::put(out, at, b'3');
-            let b = values::marked_id(out, a, b':', id);
-            let c = text::put(out, b, b':');
-            values::identity(out, c, requester)
+            page.copy(b"3:");
+            page.decimal(u64::from(id));
+            page.put(b':');
+            values::identity(page, requester);
         }
     }
 }
 
-fn link(out: &mut [u8], at: usize, link_local: bool) -> usize
-    ensures { Wrote out.old at (link_text link_local) out.new result }
+#[tactic(auto, unfolding(crate::specs::Lines::link_text))]
+fn link(page: &mut Page, link_local: bool)
+    ensures { Writes page.old (link_text link_local) page.new }
 {
     if link_local {
-        return text::copy(out, at, b":link");
+        page.copy(b":link");
     }
-    at
 }
 
-fn action(out: &mut [u8], at: usize, action: Action) -> usize
-    ensures { Wrote out.old at (action_text action) out.new result }
+#[tactic(auto, using(text::specs::PageLaws::typed_append), unfolding(crate::specs::Lines::action_text))]
+fn action(page: &mut Page, action: Action)
+    ensures { Writes page.old (action_text action) page.new }
 {
     match action {
-        Action::None => text::put(out, at, b'-'),
+        Action::None => page.put(b'-'),
         Action::ResetSyncTimer { ns } => {
-            let a = text::copy(out, at, b"sync-timer:");
-            text::decimal(out, a, ns)
+            page.copy(b"sync-timer:");
+            page.decimal(ns);
         }
         Action::ResetDelayRequestTimer { ns } => {
-            let a = text::copy(out, at, b"delay-timer:");
-            text::decimal(out, a, ns)
+            page.copy(b"delay-timer:");
+            page.decimal(ns);
         }
         Action::ResetFilterUpdateTimer { ns } => {
-            let a = text::copy(out, at, b"filter-timer:");
-            text::decimal(out, a, ns)
+            page.copy(b"filter-timer:");
+            page.decimal(ns);
         }
         Action::SendEvent {
             context: c,
             link_local,
         } => {
-            let a = text::copy(out, at, b"event:");
-            let b = context(out, a, c);
-            link(out, b, link_local)
+            page.copy(b"event:");
+            context(page, c);
+            link(page, link_local);
         }
         Action::SendGeneral { link_local } => {
-            let a = text::copy(out, at, b"general");
-            link(out, a, link_local)
+            page.copy(b"general");
+            link(page, link_local);
         }
     }
 }
 
 // In their order, with a comma between.
-pub(crate) fn actions(out: &mut [u8], at: usize, answer: Answer) -> usize
-    ensures { Wrote out.old at (actions_text (first_actions answer.count answer.actions)) out.new result }
+pub(crate) fn actions(page: &mut Page, answer: Answer)
+    ensures { Writes page.old (actions_text (first_actions answer.count answer.actions)) page.new }
 {
-    let count = answer.count;
-    let todos = answer.actions;
-    if count == 0 {
-        return text::put(out, at, b'-');
+    let [first, second] = answer.actions;
+    match answer.count {
+        0 => page.put(b'-'),
+        1 => action(page, first.action),
+        _ => {
+            action(page, first.action);
+            page.put(b',');
+            action(page, second.action);
+        }
     }
-    let first = todos[0];
-    let one = first.action;
-    let a = action(out, at, one);
-    if count == 1 {
-        return a;
-    }
-    let second = todos[1];
-    let other = second.action;
-    let b = text::put(out, a, b',');
-    action(out, b, other)
 }

@@ -1,48 +1,35 @@
 // The record at the end of a log, as `trace` shows it.
-ghost use Rattle.std.specs.Prelude.{◌∷◌, []};
-ghost use Rattle.text.specs.Page.{Wrote};
-ghost use Rattle.text.specs.Ascii.{ascii};
-ghost use Rattle.text.specs.Digits.{decimal_of};
-ghost use Rattle.lines.specs.Lines.{following, joined_by, maybe_time, maybe_identity, exchange_text, peer_text, slave_texts, ids_text, end_line};
+#![tactic(auto, using(text::specs::PageLaws::typed_append))]
+
+ghost use Rattle.text.specs.Lent.{Writes};
+ghost use Rattle.lines.specs.Lines.{following, exchange_text, peer_text, slave_texts, ids_text, end_line};
 
 use crate::values;
-use record::{Exchange, Ids, MaybeIdentity, MaybeTime, PeerState, Port, PortState, SlaveState};
+use record::{Exchange, Ids, PeerState, Port, PortState, SlaveState};
+use text::Page;
 
-fn exchange(out: &mut [u8], at: usize, x: Exchange) -> usize
-    ensures { Wrote out.old at (exchange_text x) out.new result }
+#[tactic(auto, using(text::specs::PageLaws::typed_append), unfolding(crate::specs::Lines::exchange_text))]
+fn exchange(page: &mut Page, x: Exchange)
+    ensures { Writes page.old (exchange_text x) page.new }
 {
     match x {
-        Exchange::Empty => text::put(out, at, b'-'),
+        Exchange::Empty => page.put(b'-'),
         Exchange::Measuring { id, send, receive } => {
-            let a = text::decimal(out, at, id as u64);
-            let b = values::marked_time(out, a, b':', send);
-            values::marked_time(out, b, b':', receive)
+            page.decimal(u64::from(id));
+            page.put(b':');
+            values::maybe_time(page, send);
+            page.put(b':');
+            values::maybe_time(page, receive);
         }
     }
 }
 
-// A peer exchange that is open; the request's two times, and the response's.
-fn open_peer(out: &mut [u8], at: usize, id: u16, who: MaybeIdentity) -> usize
-    ensures { Wrote out.old at (joined_by 58 (ascii "open") (decimal_of id ∷ maybe_identity who ∷ [])) out.new result }
-{
-    let a = text::copy(out, at, b"open");
-    let b = values::marked_id(out, a, b':', id);
-    let c = text::put(out, b, b':');
-    values::maybe_identity(out, c, who)
-}
-
-fn two_times(out: &mut [u8], at: usize, a: MaybeTime, b: MaybeTime) -> usize
-    ensures { Wrote out.old at (following 58 (maybe_time a ∷ maybe_time b ∷ [])) out.new result }
-{
-    let next = values::marked_time(out, at, b':', a);
-    values::marked_time(out, next, b':', b)
-}
-
-fn peer(out: &mut [u8], at: usize, x: PeerState) -> usize
-    ensures { Wrote out.old at (peer_text x) out.new result }
+#[tactic(auto, using(text::specs::PageLaws::typed_append), unfolding(crate::specs::Lines::peer_text))]
+fn peer(page: &mut Page, x: PeerState)
+    ensures { Writes page.old (peer_text x) page.new }
 {
     match x {
-        PeerState::Empty => text::put(out, at, b'-'),
+        PeerState::Empty => page.put(b'-'),
         PeerState::Measuring {
             id,
             responder,
@@ -51,75 +38,78 @@ fn peer(out: &mut [u8], at: usize, x: PeerState) -> usize
             response_send,
             response_receive,
         } => {
-            let a = open_peer(out, at, id, responder);
-            let b = two_times(out, a, request_send, request_receive);
-            two_times(out, b, response_send, response_receive)
+            page.copy(b"open:");
+            page.decimal(u64::from(id));
+            page.put(b':');
+            values::maybe_identity(page, responder);
+            page.put(b':');
+            values::maybe_time(page, request_send);
+            page.put(b':');
+            values::maybe_time(page, request_receive);
+            page.put(b':');
+            values::maybe_time(page, response_send);
+            page.put(b':');
+            values::maybe_time(page, response_receive);
         }
         PeerState::Measured { id, responder } => {
-            let a = text::copy(out, at, b"done");
-            let b = values::marked_id(out, a, b':', id);
-            let c = text::put(out, b, b':');
-            values::identity(out, c, responder)
+            page.copy(b"done:");
+            page.decimal(u64::from(id));
+            page.put(b':');
+            values::identity(page, responder);
         }
     }
 }
 
 // The master, both exchanges and the raw offset, each behind a space.
-fn slave(out: &mut [u8], at: usize, s: SlaveState) -> usize
-    ensures { Wrote out.old at (following 32 (slave_texts (PortState.Slave s))) out.new result }
+#[tactic(auto, using(text::specs::PageLaws::typed_append), unfolding(crate::specs::Lines::slave_texts))]
+fn slave(page: &mut Page, s: SlaveState)
+    ensures { Writes page.old (following 32 (slave_texts (PortState.Slave s))) page.new }
 {
-    let master = s.master;
-    let sync = s.sync;
-    let delay = s.delay;
-    let raw = s.raw;
-    let a = text::put(out, at, b' ');
-    let b = values::identity(out, a, master);
-    let c = text::put(out, b, b' ');
-    let d = exchange(out, c, sync);
-    let e = text::put(out, d, b' ');
-    let f = exchange(out, e, delay);
-    values::marked_duration(out, f, b' ', raw)
+    page.put(b' ');
+    values::identity(page, s.master);
+    page.put(b' ');
+    exchange(page, s.sync);
+    page.put(b' ');
+    exchange(page, s.delay);
+    page.put(b' ');
+    values::maybe_duration(page, s.raw);
 }
 
-fn state(out: &mut [u8], at: usize, state: PortState) -> usize
-    ensures { Wrote out.old at (following 32 (slave_texts state)) out.new result }
+#[tactic(auto, unfolding(crate::specs::Lines::slave_texts))]
+fn state(page: &mut Page, state: PortState)
+    ensures { Writes page.old (following 32 (slave_texts state)) page.new }
 {
     match state {
-        PortState::Listening => text::copy(out, at, b" - - - -"),
-        PortState::Master => text::copy(out, at, b" - - - -"),
-        PortState::Passive => text::copy(out, at, b" - - - -"),
-        PortState::Faulty => text::copy(out, at, b" - - - -"),
-        PortState::Slave(s) => slave(out, at, s),
+        PortState::Slave(s) => slave(page, s),
+        PortState::Listening | PortState::Master | PortState::Passive | PortState::Faulty => {
+            page.copy(b" - - - -");
+        }
     }
 }
 
-fn next_ids(out: &mut [u8], at: usize, ids: Ids) -> usize
-    ensures { Wrote out.old at (ids_text ids) out.new result }
+fn next_ids(page: &mut Page, ids: Ids)
+    ensures { Writes page.old (ids_text ids) page.new }
 {
-    let sync = ids.sync;
-    let delay = ids.delay;
-    let peer = ids.peer;
-    let a = text::decimal(out, at, sync as u64);
-    let b = values::marked_id(out, a, b':', delay);
-    values::marked_id(out, b, b':', peer)
+    page.decimal(u64::from(ids.sync));
+    page.put(b':');
+    page.decimal(u64::from(ids.delay));
+    page.put(b':');
+    page.decimal(u64::from(ids.peer));
 }
 
 // end STATE MASTER SYNC DELAY RAW PEER MEAN IDS
-pub(crate) fn end_line(out: &mut [u8], at: usize, port: Port) -> usize
-    ensures { Wrote out.old at (end_line port) out.new result }
+#[tactic(auto, using(text::specs::PageLaws::typed_append, crate::proofs::Texts::typed_following), unfolding(crate::specs::Lines::end_line))]
+pub(crate) fn end_line(page: &mut Page, port: Port)
+    ensures { Writes page.old (end_line port) page.new }
 {
-    let now = port.state;
-    let exchange = port.peer;
-    let mean = port.mean;
-    let ids = port.ids;
-    let number = now.number() as u64;
-    let a = text::copy(out, at, b"end ");
-    let b = text::decimal(out, a, number);
-    let c = state(out, b, now);
-    let d = text::put(out, c, b' ');
-    let e = peer(out, d, exchange);
-    let f = values::marked_duration(out, e, b' ', mean);
-    let g = text::put(out, f, b' ');
-    let h = next_ids(out, g, ids);
-    text::put(out, h, b'\n')
+    page.copy(b"end ");
+    page.decimal(u64::from(port.state.number())); // the line shows the number itself
+    state(page, port.state);
+    page.put(b' ');
+    peer(page, port.peer);
+    page.put(b' ');
+    values::maybe_duration(page, port.mean);
+    page.put(b' ');
+    next_ids(page, port.ids);
+    page.put(b'\n');
 }

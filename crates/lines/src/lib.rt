@@ -1,10 +1,9 @@
-// The lines of `replay` and `trace`, written into a lent buffer from a place on. Each function answers the place behind what it wrote;
-// where the buffer ends nothing more is written.
-#![tactic(auto)]
+// The lines of `replay` and `trace`, written on a lent page. Where the page ends nothing more is written.
+#![tactic(auto, using(text::specs::PageLaws::typed_append))]
 
 ghost use Rattle.std.specs.Prelude.{◌∷◌, []};
 ghost use Rattle.record.specs.Answers.{number_of, first_actions};
-ghost use Rattle.text.specs.Page.{Wrote};
+ghost use Rattle.text.specs.Lent.{Writes};
 ghost use Rattle.text.specs.Digits.{decimal_of};
 ghost use Rattle.lines.specs.Lines.{following, joined_by, maybe_duration, sent_text, reset_text, trace_texts, line_for, bad_line, last_line};
 
@@ -13,7 +12,9 @@ mod ending;
 mod measured;
 mod values;
 
-use record::{Answer, MaybeDuration, MaybeTime, Outcome, Port};
+use record::{Answer, Outcome, Port};
+use text::Page;
+use time::{Duration, Time};
 
 // Which lines are written: document 01's, or those that show all of an answer.
 #[derive(Clone, Copy)]
@@ -26,103 +27,93 @@ pub enum Style {
 #[derive(Clone, Copy)]
 pub struct Shown {
     pub letter: u8,
-    pub value: MaybeDuration,
-    pub time: MaybeTime,
-    pub offset: MaybeDuration,
-    pub delay: MaybeDuration,
+    pub value: Option<Duration>,
+    pub time: Option<Time>,
+    pub offset: Option<Duration>,
+    pub delay: Option<Duration>,
 }
 
 // Number, answer, letter, value.
-fn heading(out: &mut [u8], at: usize, number: u64, outcome: Outcome, shown: Shown) -> usize
-    ensures { Wrote out.old at (joined_by 32 (decimal_of number) (decimal_of (number_of outcome) ∷ (shown.letter ∷ []) ∷ maybe_duration shown.value ∷ [])) out.new result }
+fn heading(page: &mut Page, number: u64, outcome: Outcome, shown: Shown)
+    ensures { Writes page.old (joined_by 32 (decimal_of number) (decimal_of (number_of outcome) ∷ (shown.letter ∷ []) ∷ maybe_duration shown.value ∷ [])) page.new }
 {
-    let letter = shown.letter;
-    let value = shown.value;
-    let answer = outcome.number() as u64;
-    let a = text::decimal(out, at, number);
-    let b = text::put(out, a, b' ');
-    let c = text::decimal(out, b, answer);
-    let d = text::put(out, c, b' ');
-    let e = text::put(out, d, letter);
-    values::marked_duration(out, e, b' ', value)
+    page.decimal(number);
+    page.put(b' ');
+    page.decimal(u64::from(outcome.number()));
+    page.put(b' ');
+    page.put(shown.letter);
+    page.put(b' ');
+    values::maybe_duration(page, shown.value);
 }
 
-fn sent_text(out: &mut [u8], at: usize, sent: &[u8]) -> usize
-    ensures { Wrote out.old at (sent_text sent.now) out.new result }
+fn sent_text(page: &mut Page, sent: &[u8])
+    ensures { Writes page.old (sent_text sent.now) page.new }
 {
-    if sent.len() == 0 {
-        return text::put(out, at, b'-');
+    if sent.is_empty() {
+        page.put(b'-');
+    } else {
+        page.bytes(sent);
     }
-    text::bytes(out, at, sent)
 }
 
-fn reset_text(out: &mut [u8], at: usize, reset: bool) -> usize
-    ensures { Wrote out.old at (reset_text reset) out.new result }
+#[tactic(auto, unfolding(crate::specs::Lines::reset_text))]
+fn reset_text(page: &mut Page, reset: bool)
+    ensures { Writes page.old (reset_text reset) page.new }
 {
     if reset {
-        return text::copy(out, at, b"reset");
+        page.copy(b"reset");
+    } else {
+        page.put(b'-');
     }
-    text::put(out, at, b'-')
 }
 
 // Event time, offset, delay, the packet, the actions, the reset.
-fn details(out: &mut [u8], at: usize, shown: Shown, answer: Answer, sent: &[u8]) -> usize
-    ensures { Wrote out.old at (following 32 (trace_texts shown sent.now (first_actions answer.count answer.actions) answer.reset)) out.new result }
+fn details(page: &mut Page, shown: Shown, answer: Answer, sent: &[u8])
+    ensures { Writes page.old (following 32 (trace_texts shown sent.now (first_actions answer.count answer.actions) answer.reset)) page.new }
 {
-    let time = shown.time;
-    let offset = shown.offset;
-    let delay = shown.delay;
-    let reset = answer.reset;
-    let a = values::marked_time(out, at, b' ', time);
-    let b = values::marked_duration(out, a, b' ', offset);
-    let c = values::marked_duration(out, b, b' ', delay);
-    let d = text::put(out, c, b' ');
-    let e = sent_text(out, d, sent);
-    let f = text::put(out, e, b' ');
-    let g = actions::actions(out, f, answer);
-    let h = text::put(out, g, b' ');
-    reset_text(out, h, reset)
+    page.put(b' ');
+    values::maybe_time(page, shown.time);
+    page.put(b' ');
+    values::maybe_duration(page, shown.offset);
+    page.put(b' ');
+    values::maybe_duration(page, shown.delay);
+    page.put(b' ');
+    sent_text(page, sent);
+    page.put(b' ');
+    actions::actions(page, answer);
+    page.put(b' ');
+    reset_text(page, answer.reset);
 }
 
-// The line of an event: its number, what was answered, and the bytes that were sent.
-pub fn line(
-    style: Style,
-    number: u64,
-    answer: Answer,
-    sent: &[u8],
-    out: &mut [u8],
-    at: usize,
-) -> usize
-    ensures { Wrote out.old at (line_for style number answer sent.now) out.new result }
+// Five parameters that only this line has together. The line of an event: its number, what was answered, and the bytes that were sent.
+#[tactic(auto, using(text::specs::PageLaws::typed_append, crate::proofs::Texts::joined_append), unfolding(crate::specs::Lines::line_with))]
+pub fn line(page: &mut Page, style: Style, number: u64, answer: Answer, sent: &[u8])
+    ensures { Writes page.old (line_for style number answer sent.now) page.new }
 {
-    let outcome = answer.outcome;
-    let measurement = answer.measurement;
-    let shown = measured::shown(measurement);
-    let head = heading(out, at, number, outcome, shown);
-    match style {
-        Style::Replay => text::put(out, head, b'\n'),
-        Style::Trace => {
-            let all = details(out, head, shown, answer, sent);
-            text::put(out, all, b'\n')
-        }
+    let shown = measured::shown(answer.measurement);
+    heading(page, number, answer.outcome, shown);
+    if let Style::Trace = style {
+        details(page, shown, answer, sent);
     }
+    page.put(b'\n');
 }
 
 // The line at a bad field.
-pub fn bad_line(offset: u64, out: &mut [u8], at: usize) -> usize
-    ensures { Wrote out.old at (bad_line offset) out.new result }
+#[tactic(auto, using(text::specs::PageLaws::typed_append), unfolding(crate::specs::Lines::bad_line))]
+pub fn bad_line(page: &mut Page, offset: u64)
+    ensures { Writes page.old (bad_line offset) page.new }
 {
-    let a = text::copy(out, at, b"bad at ");
-    let b = text::decimal(out, a, offset);
-    text::put(out, b, b'\n')
+    page.copy(b"bad at ");
+    page.decimal(offset);
+    page.put(b'\n');
 }
 
 // What a good log ends with: the record, which only `trace` shows.
-pub fn last_line(style: Style, port: Port, out: &mut [u8], at: usize) -> usize
-    ensures { Wrote out.old at (last_line style port) out.new result }
+#[tactic(auto, unfolding(crate::specs::Lines::last_line))]
+pub fn last_line(page: &mut Page, style: Style, port: Port)
+    ensures { Writes page.old (last_line style port) page.new }
 {
-    match style {
-        Style::Replay => at,
-        Style::Trace => ending::end_line(out, at, port),
+    if let Style::Trace = style {
+        ending::end_line(page, port);
     }
 }

@@ -1,12 +1,14 @@
 // What a line shows of a measurement.
+#![tactic(auto, unfolding(crate::specs::Lines::shown_of))]
+
 ghost use Rattle.std.specs.Prelude.{◌≡◌};
 ghost use Rattle.lines.specs.Lines.{shown_of};
 
 use crate::Shown;
-use record::{MaybeDuration, MaybeMeasurement, MaybeTime, Measurement};
+use record::Measurement;
 
 fn some(measurement: Measurement) -> Shown
-    ensures { result ≡ shown_of (MaybeMeasurement.Some measurement) }
+    ensures { result ≡ shown_of (Some measurement) }
 {
     match measurement {
         Measurement::Sync {
@@ -15,10 +17,10 @@ fn some(measurement: Measurement) -> Shown
             offset,
         } => Shown {
             letter: b'S',
-            value: MaybeDuration::Some(raw),
-            time: MaybeTime::Some(event_time),
+            value: Some(raw),
+            time: Some(event_time),
             offset,
-            delay: MaybeDuration::None,
+            delay: None,
         },
         Measurement::Delay {
             event_time,
@@ -26,32 +28,32 @@ fn some(measurement: Measurement) -> Shown
             delay,
         } => Shown {
             letter: b'D',
-            value: MaybeDuration::Some(raw),
-            time: MaybeTime::Some(event_time),
-            offset: MaybeDuration::None,
+            value: Some(raw),
+            time: Some(event_time),
+            offset: None,
             delay,
         },
         Measurement::Peer { event_time, delay } => Shown {
             letter: b'P',
-            value: MaybeDuration::Some(delay),
-            time: MaybeTime::Some(event_time),
-            offset: MaybeDuration::None,
-            delay: MaybeDuration::None,
+            value: Some(delay),
+            time: Some(event_time),
+            offset: None,
+            delay: None,
         },
     }
 }
 
-pub(crate) fn shown(measurement: MaybeMeasurement) -> Shown
+pub(crate) fn shown(measurement: Option<Measurement>) -> Shown
     ensures { result ≡ shown_of measurement }
 {
     match measurement {
-        MaybeMeasurement::None => Shown {
+        None => Shown {
             letter: b'-',
-            value: MaybeDuration::None,
-            time: MaybeTime::None,
-            offset: MaybeDuration::None,
-            delay: MaybeDuration::None,
+            value: None,
+            time: None,
+            offset: None,
+            delay: None,
         },
-        MaybeMeasurement::Some(m) => some(m),
+        Some(m) => some(m),
     }
 }

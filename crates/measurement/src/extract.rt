@@ -3,45 +3,26 @@ ghost use Rattle.std.specs.Prelude.{◌≡◌};
 ghost use Rattle.rules.specs.Measuring.{settle};
 ghost use Rattle.handling.specs.Handling.{handled_of};
 
-use crate::{MaybeSlave, Pair, PeerTimes, complete, measure};
+use crate::{complete, measure};
 use handling::Handled;
-use record::Port;
+use record::{Outcome, Port, PortState};
 
-// found is the record before the event, which a refusal hands back.
-pub fn extract_measurement(found: Port, port: Port) -> Handled
-    ensures { result ≡ handled_of found (settle port) }
+// The record is the one with what the event brought. A sum that leaves its range is refused.
+#[tactic(auto, unfolding(rules::specs::Measuring::settle, crate::specs::Taking::pair_of, crate::specs::Taking::peer_times_of))]
+pub fn extract_measurement(port: Port) -> Result<Handled, Outcome>
+    ensures { result ≡ handled_of (settle port) }
 {
-    let peer = port.peer;
-    let times = complete::peer_times(peer);
-    match times {
-        PeerTimes::All(id, responder, t1, t2, t3, t4) => {
-            measure::measure_peer(found, port, id, responder, t1, t2, t3, t4)
-        }
-        PeerTimes::Missing => {
-            let state = port.state;
-            let slave = complete::as_slave(state);
-            match slave {
-                MaybeSlave::None => Handled::nothing(port),
-                MaybeSlave::Some(s) => {
-                    let sync = s.sync;
-                    let delay = s.delay;
-                    let synced = complete::pair(sync);
-                    match synced {
-                        Pair::Both(send, receive) => {
-                            measure::measure_sync(found, port, s, send, receive)
-                        }
-                        Pair::Missing => {
-                            let delayed = complete::pair(delay);
-                            match delayed {
-                                Pair::Both(send, receive) => {
-                                    measure::measure_delay(found, port, s, send, receive)
-                                }
-                                Pair::Missing => Handled::nothing(port),
-                            }
-                        }
-                    }
-                }
-            }
-        }
+    if let Some(times) = complete::peer_times(port.peer) {
+        return measure::measure_peer(port, times);
     }
+    let PortState::Slave(s) = port.state else {
+        return Ok(Handled::nothing(port));
+    };
+    if let Some((send, receive)) = complete::pair(s.sync) {
+        return measure::measure_sync(port, s, send, receive);
+    }
+    if let Some((send, receive)) = complete::pair(s.delay) {
+        return measure::measure_delay(port, s, send, receive);
+    }
+    Ok(Handled::nothing(port))
 }

@@ -6,34 +6,16 @@ pub mod complete;
 pub mod extract;
 mod measure;
 
-use record::{MaybeDuration, Outcome, SlaveState};
 use time::Time;
 use wire::Identity;
 
-// A Slave's part of the record, where there is one.
+// A peer exchange that has all four times: its id, its responder, the request's times and the response's.
 #[derive(Clone, Copy)]
-pub enum MaybeSlave {
-    None,
-    Some(SlaveState),
-}
-
-// The times of an exchange that has both.
-#[derive(Clone, Copy)]
-pub enum Pair {
-    Missing,
-    Both(Time, Time),
-}
-
-// The times of a peer exchange that has all four, its id and its responder.
-#[derive(Clone, Copy)]
-pub enum PeerTimes {
-    Missing,
-    All(u16, Identity, Time, Time, Time, Time),
-}
-
-// An offset or a delay, where what it takes is kept; or the refusal of its sum.
-#[derive(Clone, Copy)]
-pub enum PartAnswer {
-    Value(MaybeDuration),
-    Refused(Outcome),
+pub struct PeerTimes {
+    pub id: u16,
+    pub responder: Identity,
+    pub request_send: Time,
+    pub request_receive: Time,
+    pub response_send: Time,
+    pub response_receive: Time,
 }

@@ -1,144 +1,101 @@
-// What a complete exchange measures (document 01, 'The measurement'). found is the record before the event, which a
-// refusal hands back; port is the record with what the event brought.
+// What a complete exchange measures (document 01, 'The measurement'), each of the three by its own formula. A sum that leaves its
+// range is refused.
 ghost use Rattle.std.specs.Prelude.{◌≡◌};
-ghost use Rattle.rules.specs.Worked.{a_duration};
 ghost use Rattle.rules.specs.Measuring.{less_mean, measure_sync, half_below, measure_delay, recovered, measure_peer};
 ghost use Rattle.record.specs.Record.{is_faulty};
 ghost use Rattle.handling.specs.Handling.{handled_of};
-ghost use Rattle.measurement.specs.Taking.{raw_between, twice_delay, a_part};
+ghost use Rattle.measurement.specs.Taking.{raw_between, twice_delay};
 
-use crate::PartAnswer;
+use crate::PeerTimes;
 use handling::Handled;
-use record::{
-    Exchange, MaybeDuration, Measurement, Outcome, PeerState, Port, PortState, SlaveState,
-};
-use time::{Duration, DurationAnswer, Time};
-use wire::Identity;
+use record::{Exchange, Measurement, Outcome, PeerState, Port, PortState, SlaveState};
+use time::{Duration, Time};
 
 // What passed from b to a, less the asymmetry.
-fn raw_between(a: Time, b: Time, asymmetry: Duration) -> DurationAnswer
-    ensures { a_duration result ≡ raw_between a b asymmetry }
+#[tactic(auto, unfolding(crate::specs::Taking::raw_between, rules::specs::Worked::elapsed, rules::specs::Worked::less_duration))]
+fn raw_between(a: Time, b: Time, asymmetry: Duration) -> Result<Duration, Outcome>
+    ensures { result ≡ raw_between a b asymmetry }
 {
-    let apart = a.minus(b);
-    match apart {
-        DurationAnswer::Value(d) => d.minus(asymmetry),
-        DurationAnswer::Out => DurationAnswer::Out,
-    }
+    let apart = a.minus(b)?;
+    Ok(apart.minus(asymmetry)?)
 }
 
 // The offset, where there is a mean delay to take off.
-fn less_mean(raw: Duration, mean: MaybeDuration) -> PartAnswer
-    ensures { a_part result ≡ less_mean raw mean }
+#[tactic(auto, unfolding(rules::specs::Worked::less_duration))]
+fn less_mean(raw: Duration, mean: Option<Duration>) -> Result<Option<Duration>, Outcome>
+    ensures { result ≡ less_mean raw mean }
 {
     match mean {
-        MaybeDuration::None => PartAnswer::Value(MaybeDuration::None),
-        MaybeDuration::Some(m) => {
-            let less = raw.minus(m);
-            match less {
-                DurationAnswer::Value(d) => PartAnswer::Value(MaybeDuration::Some(d)),
-                DurationAnswer::Out => PartAnswer::Refused(Outcome::Range),
-            }
-        }
+        None => Ok(None),
+        Some(mean) => Ok(Some(raw.minus(mean)?)),
     }
 }
 
 // The delay, where a raw sync offset is kept.
-fn half_below(last: MaybeDuration, raw: Duration) -> PartAnswer
-    ensures { a_part result ≡ half_below last raw }
+#[tactic(auto, unfolding(rules::specs::Worked::less_duration))]
+fn half_below(last: Option<Duration>, raw: Duration) -> Result<Option<Duration>, Outcome>
+    ensures { result ≡ half_below last raw }
 {
     match last {
-        MaybeDuration::None => PartAnswer::Value(MaybeDuration::None),
-        MaybeDuration::Some(m) => {
-            let twice = m.minus(raw);
-            match twice {
-                DurationAnswer::Value(d) => PartAnswer::Value(MaybeDuration::Some(d.half())),
-                DurationAnswer::Out => PartAnswer::Refused(Outcome::Range),
-            }
-        }
+        None => Ok(None),
+        Some(last) => Ok(Some(last.minus(raw)?.half())),
     }
 }
 
+#[tactic(auto, unfolding(rules::specs::Measuring::measure_sync, crate::specs::Taking::raw_between))]
 pub(crate) fn measure_sync(
-    found: Port,
     port: Port,
     s: SlaveState,
     send: Time,
     receive: Time,
-) -> Handled
-    ensures { result ≡ handled_of found (measure_sync port s send receive) }
+) -> Result<Handled, Outcome>
+    ensures { result ≡ handled_of (measure_sync port s send receive) }
 {
-    let config = port.config;
-    let mean = port.mean;
-    let asymmetry = config.asymmetry;
-    let DurationAnswer::Value(raw) = raw_between(receive, send, asymmetry) else {
-        return Handled::refused(Outcome::Range, found);
+    let raw = raw_between(receive, send, port.config.asymmetry)?;
+    let offset = less_mean(raw, port.mean)?;
+    let kept = s.with_sync(Exchange::Empty).with_raw(raw);
+    let measurement = Measurement::Sync {
+        event_time: receive,
+        raw,
+        offset,
     };
-    let part = less_mean(raw, mean);
-    match part {
-        PartAnswer::Value(offset) => {
-            let kept = s.with_sync(Exchange::Empty).with_raw(raw);
-            let measurement = Measurement::Sync {
-                event_time: receive,
-                raw,
-                offset,
-            };
-            Handled::measured(port.with_slave(kept), measurement, false)
-        }
-        PartAnswer::Refused(o) => Handled::refused(o, found),
-    }
+    Ok(Handled::measured(port.with_slave(kept), measurement, false))
 }
 
+#[tactic(auto, unfolding(rules::specs::Measuring::measure_delay, crate::specs::Taking::raw_between))]
 pub(crate) fn measure_delay(
-    found: Port,
     port: Port,
     s: SlaveState,
     send: Time,
     receive: Time,
-) -> Handled
-    ensures { result ≡ handled_of found (measure_delay port s send receive) }
+) -> Result<Handled, Outcome>
+    ensures { result ≡ handled_of (measure_delay port s send receive) }
 {
-    let config = port.config;
-    let last = s.raw;
-    let asymmetry = config.asymmetry;
-    let DurationAnswer::Value(raw) = raw_between(send, receive, asymmetry) else {
-        return Handled::refused(Outcome::Range, found);
+    let raw = raw_between(send, receive, port.config.asymmetry)?;
+    let delay = half_below(s.raw, raw)?;
+    let kept = s.with_delay(Exchange::Empty);
+    let measurement = Measurement::Delay {
+        event_time: send,
+        raw,
+        delay,
     };
-    let part = half_below(last, raw);
-    match part {
-        PartAnswer::Value(delay) => {
-            let kept = s.with_delay(Exchange::Empty);
-            let measurement = Measurement::Delay {
-                event_time: send,
-                raw,
-                delay,
-            };
-            Handled::measured(port.with_slave(kept), measurement, false)
-        }
-        PartAnswer::Refused(o) => Handled::refused(o, found),
-    }
+    Ok(Handled::measured(port.with_slave(kept), measurement, false))
 }
 
 // The whole turn without the responder's stay: twice the delay of the link.
-fn twice_delay(t1: Time, t2: Time, t3: Time, t4: Time) -> DurationAnswer
-    ensures { a_duration result ≡ twice_delay t1 t2 t3 t4 }
+#[tactic(auto, unfolding(crate::specs::Taking::twice_delay, rules::specs::Worked::elapsed, rules::specs::Worked::less_duration))]
+fn twice_delay(t1: Time, t2: Time, t3: Time, t4: Time) -> Result<Duration, Outcome>
+    ensures { result ≡ twice_delay t1 t2 t3 t4 }
 {
-    let turn = t4.minus(t1);
-    match turn {
-        DurationAnswer::Value(whole) => {
-            let stay = t3.minus(t2);
-            match stay {
-                DurationAnswer::Value(part) => whole.minus(part),
-                DurationAnswer::Out => DurationAnswer::Out,
-            }
-        }
-        DurationAnswer::Out => DurationAnswer::Out,
-    }
+    let turn = t4.minus(t1)?;
+    let stay = t3.minus(t2)?;
+    Ok(turn.minus(stay)?)
 }
 
 fn is_faulty(state: PortState) -> bool
     ensures { result ≡ is_faulty state }
 {
-    state.number() == 3
+    matches!(state, PortState::Faulty)
 }
 
 // Faulty becomes Listening.
@@ -152,28 +109,25 @@ fn recovered(state: PortState) -> PortState
     }
 }
 
-// t1 and t4 are the request's send and the response's receive time, t2 and t3 the responder's own.
-pub(crate) fn measure_peer(
-    found: Port,
-    port: Port,
-    id: u16,
-    responder: Identity,
-    t1: Time,
-    t2: Time,
-    t3: Time,
-    t4: Time,
-) -> Handled
-    ensures { result ≡ handled_of found (measure_peer port id responder t1 t2 t3 t4) }
+#[tactic(auto, unfolding(rules::specs::Measuring::measure_peer, crate::specs::Taking::twice_delay))]
+pub(crate) fn measure_peer(port: Port, times: PeerTimes) -> Result<Handled, Outcome>
+    ensures { result ≡ handled_of (measure_peer port times.id times.responder times.request_send times.request_receive times.response_send times.response_receive) }
 {
-    let state = port.state;
-    let DurationAnswer::Value(twice) = twice_delay(t1, t2, t3, t4) else {
-        return Handled::refused(Outcome::Range, found);
-    };
+    let event_time = times.response_receive;
+    let twice = twice_delay(
+        times.request_send,
+        times.request_receive,
+        times.response_send,
+        event_time,
+    )?;
     let measurement = Measurement::Peer {
-        event_time: t4,
+        event_time,
         delay: twice.half(),
     };
-    let measured = port.with_peer(PeerState::Measured { id, responder });
-    let left = measured.with_state(recovered(state));
-    Handled::measured(left, measurement, is_faulty(state))
+    let measured = port.with_peer(PeerState::Measured {
+        id: times.id,
+        responder: times.responder,
+    });
+    let left = measured.with_state(recovered(port.state));
+    Ok(Handled::measured(left, measurement, is_faulty(port.state)))
 }

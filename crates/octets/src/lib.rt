@@ -4,32 +4,19 @@
 ghost use Rattle.std.specs.Prelude.{◌≡◌, ◌+◌, ◌^◌, ◌≤◌, ◌<◌, length};
 ghost use Rattle.octets.specs.Bytes.{number, put};
 
-fn wide(x: u8) -> u64
-    ensures { (result ≡ x) × (result < 256) }
-{
-    x as u64
-}
-
-pub fn size(x: u16) -> usize
-    ensures { result ≡ x }
-{
-    x as usize
-}
-
 pub fn get(s: &[u8], at: usize, width: usize) -> u64
     requires { (at + width ≤ length s.now) × (width ≤ 8) }
     ensures { (result ≡ number at width s.now) × (result < 256 ^ width) }
 {
     let mut r: u64 = 0;
-    let mut i: usize = 0;
-    while i < width {
-        let b = wide(s[at + i]);
-        r = r * 256 + b;
-        i += 1;
+    for byte in &s[at..at + width] {
+        r = r * 256 + u64::from(*byte);
     }
     r
 }
 
+// The casts lose nothing, as the width bounds each number, and the check proves it: try_from would test it once more.
+// Stay six: lines over `get` and `put`, one for each type: a trait with six impls would be longer, and its callers would name the type instead.
 pub fn get_u8(s: &[u8], at: usize) -> u8
     requires { at + 1 ≤ length s.now }
     ensures { result ≡ number at 1 s.now }
@@ -64,11 +51,10 @@ pub fn put(buf: &mut [u8], at: usize, width: usize, value: u64)
     ensures { buf.new ≡ put at width value buf.old }
 {
     let mut v = value;
-    let mut i = width;
-    while 0 < i {
-        i -= 1;
+    for i in (0..width).rev() {
+        // a rest below 256
         buf[at + i] = (v % 256) as u8;
-        v = v / 256;
+        v /= 256;
     }
 }
 
@@ -76,12 +62,12 @@ pub fn put_u8(buf: &mut [u8], at: usize, v: u8)
     requires { at + 1 ≤ length buf.old }
     ensures { buf.new ≡ put at 1 v buf.old }
 {
-    put(buf, at, 1, v as u64);
+    put(buf, at, 1, u64::from(v));
 }
 
 pub fn put_u16(buf: &mut [u8], at: usize, v: u16)
     requires { at + 2 ≤ length buf.old }
     ensures { buf.new ≡ put at 2 v buf.old }
 {
-    put(buf, at, 2, v as u64);
+    put(buf, at, 2, u64::from(v));
 }

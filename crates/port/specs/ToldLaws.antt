@@ -4,12 +4,12 @@ use Rattle.record.specs.declared.Answer.{Answer}
 use Rattle.record.specs.Answers.{answer_of, first_actions}
 use Rattle.record.proofs.AnswersLaws.{actions_back}
 use Rattle.rules.specs.Names.{Port}
-use Rattle.rules.specs.Events.{Event, Result}
+use Rattle.rules.specs.Events.{Event, Answered}
 use Rattle.rules.specs.Step.{step}
 use Rattle.rules.proofs.ActionLaws.{actions_orderly}
 use Rattle.port.specs.Entries.{answer_for}
 
-pub record TellsResult (r : Result) (a : Answer) : Type 0 where
+pub record TellsResult (r : Answered) (a : Answer) : Type 0 where
   pub outcome : a.outcome ≡ r.outcome
   pub port : a.port ≡ r.port
   pub measurement : a.measurement ≡ r.measurement

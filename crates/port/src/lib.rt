@@ -1,21 +1,36 @@
 // A port at work: the seven entries of document 01's event list, each over the packet buffer that its caller lends.
-// Every entry is the same: the gate of rows 1, 2 and 3, what the event's handler hands on, and the packet.
+// Every entry is the same: the gate of rows 1, 2 and 3, what the event's handler hands on, and the packet. They stay seven, by the
+// names that the Rust has for them, each with its own event's parts.
 #![tactic(auto)]
 
+ghost use Rattle.std.specs.Prelude.{◌≡◌, length};
 ghost use Rattle.rules.specs.Events.{event, general, stamp, sync_timer, delay_timer, filter_answer, set_state};
 ghost use Rattle.port.specs.Entries.{Answers};
+ghost use Rattle.port.specs.Pieces.{answer_by, buffer_by};
 
 use dispatch::{hearing, stamps};
-use handling::sending;
+use handling::{Handled, sending};
 use master::Answering;
-use record::{Answer, Context, FilterUpdate, NewState, Port};
-use rows::Gate;
+use record::{Answer, Context, FilterUpdate, NewState, Outcome, Port};
 use time::Time;
 
 // The Rust's Port<Running>: it goes in by value, and the record to go on with is in the answer.
 #[derive(Clone, Copy)]
 pub struct Running {
     pub record: Port,
+}
+
+// What was handed on, its message written into the packet; or a refusal, with the record as it was found.
+fn answered(port: Port, handled: Result<Handled, Outcome>, packet: &mut [u8]) -> Answer
+    ensures { (result ≡ answer_by port handled (length packet.old)) × (packet.new ≡ buffer_by handled packet.old) }
+{
+    match handled {
+        Ok(Handled { answer, message }) => {
+            let length = sending::send(packet, message, answer.length);
+            answer.with_length(length)
+        }
+        Err(outcome) => Answer::refused(outcome, port),
+    }
 }
 
 impl Running {
@@ -25,16 +40,9 @@ impl Running {
     {
         let port = self.record;
         let time_out = fitness::time_out(recv_time);
-        let gate = Gate::of(port, packet.len(), time_out);
-        match gate {
-            Gate::Open => {
-                let handled = hearing::on_event(port, recv_time, message);
-                let answer = handled.answer;
-                let outgoing = handled.message;
-                let length = sending::send(packet, outgoing, answer.length);
-                answer.with_length(length)
-            }
-            Gate::Shut(outcome) => Answer::refused(outcome, port),
+        match rows::gate(port, packet.len(), time_out) {
+            Ok(()) => answered(port, hearing::on_event(port, recv_time, message), packet),
+            Err(outcome) => Answer::refused(outcome, port),
         }
     }
 
@@ -43,16 +51,9 @@ impl Running {
         ensures { Answers self.record (general message.now) packet.old result packet.new }
     {
         let port = self.record;
-        let gate = Gate::of(port, packet.len(), false);
-        match gate {
-            Gate::Open => {
-                let handled = hearing::on_general(port, message);
-                let answer = handled.answer;
-                let outgoing = handled.message;
-                let length = sending::send(packet, outgoing, answer.length);
-                answer.with_length(length)
-            }
-            Gate::Shut(outcome) => Answer::refused(outcome, port),
+        match rows::gate(port, packet.len(), false) {
+            Ok(()) => answered(port, hearing::on_general(port, message), packet),
+            Err(outcome) => Answer::refused(outcome, port),
         }
     }
 
@@ -67,16 +68,9 @@ impl Running {
     {
         let port = self.record;
         let stamp_out = fitness::time_out(timestamp);
-        let gate = Gate::of(port, packet.len(), stamp_out);
-        match gate {
-            Gate::Open => {
-                let handled = stamps::on_stamp(port, context, timestamp);
-                let answer = handled.answer;
-                let outgoing = handled.message;
-                let length = sending::send(packet, outgoing, answer.length);
-                answer.with_length(length)
-            }
-            Gate::Shut(outcome) => Answer::refused(outcome, port),
+        match rows::gate(port, packet.len(), stamp_out) {
+            Ok(()) => answered(port, stamps::on_stamp(port, context, timestamp), packet),
+            Err(outcome) => Answer::refused(outcome, port),
         }
     }
 
@@ -84,17 +78,9 @@ impl Running {
         ensures { Answers self.record sync_timer packet.old result packet.new }
     {
         let port = self.record;
-        let gate = Gate::of(port, packet.len(), false);
-        match gate {
-            Gate::Open => {
-                let master = Answering { port };
-                let handled = master.send_sync();
-                let answer = handled.answer;
-                let outgoing = handled.message;
-                let length = sending::send(packet, outgoing, answer.length);
-                answer.with_length(length)
-            }
-            Gate::Shut(outcome) => Answer::refused(outcome, port),
+        match rows::gate(port, packet.len(), false) {
+            Ok(()) => answered(port, Answering { port }.send_sync(), packet),
+            Err(outcome) => Answer::refused(outcome, port),
         }
     }
 
@@ -104,16 +90,9 @@ impl Running {
     {
         let port = self.record;
         let draw_out = fitness::draw_out(draw);
-        let gate = Gate::of(port, packet.len(), draw_out);
-        match gate {
-            Gate::Open => {
-                let handled = requests::send_delay_request(port, draw);
-                let answer = handled.answer;
-                let outgoing = handled.message;
-                let length = sending::send(packet, outgoing, answer.length);
-                answer.with_length(length)
-            }
-            Gate::Shut(outcome) => Answer::refused(outcome, port),
+        match rows::gate(port, packet.len(), draw_out) {
+            Ok(()) => answered(port, requests::send_delay_request(port, draw), packet),
+            Err(outcome) => Answer::refused(outcome, port),
         }
     }
 
@@ -122,16 +101,9 @@ impl Running {
         ensures { Answers self.record (filter_answer update) packet.old result packet.new }
     {
         let port = self.record;
-        let gate = Gate::of(port, packet.len(), false);
-        match gate {
-            Gate::Open => {
-                let handled = from_host::on_filter(port, update);
-                let answer = handled.answer;
-                let outgoing = handled.message;
-                let length = sending::send(packet, outgoing, answer.length);
-                answer.with_length(length)
-            }
-            Gate::Shut(outcome) => Answer::refused(outcome, port),
+        match rows::gate(port, packet.len(), false) {
+            Ok(()) => answered(port, Ok(from_host::on_filter(port, update)), packet),
+            Err(outcome) => Answer::refused(outcome, port),
         }
     }
 
@@ -140,16 +112,9 @@ impl Running {
         ensures { Answers self.record (set_state state) packet.old result packet.new }
     {
         let port = self.record;
-        let gate = Gate::of(port, packet.len(), false);
-        match gate {
-            Gate::Open => {
-                let handled = from_host::on_state(port, state);
-                let answer = handled.answer;
-                let outgoing = handled.message;
-                let length = sending::send(packet, outgoing, answer.length);
-                answer.with_length(length)
-            }
-            Gate::Shut(outcome) => Answer::refused(outcome, port),
+        match rows::gate(port, packet.len(), false) {
+            Ok(()) => answered(port, Ok(from_host::on_state(port, state)), packet),
+            Err(outcome) => Answer::refused(outcome, port),
         }
     }
 }

@@ -1,5 +1,5 @@
 -- Which bytes do not matter: those that `Layout` calls unread, and all behind the stated length.
-use Rattle.std.specs.Prelude.{ℕ, ◌+◌, ◌≤◌, ◌<◌, ◌≡◌, Bool, ◌&&◌, List, [], ◌∷◌, ◌++◌, length, get_or, ltb, leb}
+use Rattle.std.specs.Prelude.{ℕ, ◌+◌, ◌≤◌, ◌<◌, ◌≡◌, Bool, ◌&&◌, List, [], ◌∷◌, ◌++◌, length, get_or, ltb, leb, Ok, Err}
 use Rattle.std.proofs.Math.Path.{refl, ap}
 use Rattle.std.proofs.Common.{sym, ◌∙◌, length-append, lit≤, ltb-true, ltb-false, leb-true, leb-false, le-leb, lt-ltb, le-ltb}
 use Rattle.std.proofs.Math.Bool.{true, false, cond}
@@ -7,12 +7,12 @@ use Rattle.std.proofs.lemmas.Bool.{false≢true, lt-leb}
 use native.Mathlib.Omega.{arith}
 use Rattle.std.proofs.Math.ListN.{get_or-append}
 use Rattle.time.specs.Units.{time_of_wire}
+use Rattle.wire.specs.declared.Header.{Header}
 use Rattle.wire.specs.declared.MessageType.{MessageType}
 use Rattle.wire.specs.declared.MessageType.TheVariants as M
 use Rattle.wire.specs.declared.Kind.{Kind}
 use Rattle.wire.specs.declared.Kind.TheVariants as K
 use Rattle.wire.specs.declared.Body.TheVariants as B
-use Rattle.reading.specs.declared.Reading.TheVariants as G
 use Rattle.octets.specs.Bytes.{Place, field_at, number}
 use Rattle.wire.specs.Layout.{row, header_of, body_of, timestamp_at, identity_at, body, low_half, kind_of, message_length}
 use Rattle.reading.specs.Unread.{read_to, unread, lies, unread_at, reserved_in}
@@ -21,6 +21,8 @@ use Rattle.octets.proofs.BytesLaws.{neither, number_same, number_inside}
 use Rattle.wire.proofs.LayoutLaws.{row_bounds}
 use Rattle.reading.specs.ReadingLaws.{past_row5}
 use Rattle.reading.specs.UnreadLaws.{Outside, Agree, Alike}
+use Rattle.reading.specs.declared.Received.{Received}
+use Rattle.reading.specs.declared.ReadError.{ReadError}
 
 lies_outside : (ps : List Place) (i : ℕ) → lies ps i ≡ false → Outside ps i
 lies_outside [] i e = tt
@@ -123,7 +125,7 @@ body_read M.PDelayRespFollowUp l m e = λ j. B.PDelayRespFollowUp (stamp_read M.
 decoded_same : (k : Kind) (l m : List ℕ) → Agree k l m → decoded k l ≡ decoded k m
 unfolding message_of
 decoded_same (K.Table t) l m e = λ j. timed (time_of_wire (stamp_read t l m e j)) (header_read (K.Table t) l m e j) (body_read t l m e j)
-decoded_same K.Host l m e = ap G.Host (header_read K.Host l m e)
+decoded_same K.Host l m e = ap (λ (h : Header). Ok (Received.Host h)) (header_read K.Host l m e)
 decoded_same K.Reserved l m e = refl
 
 -- ---- the whole
@@ -143,11 +145,11 @@ module _ (l m : List ℕ) (n : Alike (field_at message_length l) (length l) (len
   same : (row5 l ≡ false → Agree (kind_in l) l m) → read_of l ≡ read_of m
   unfolding read_of
   same e =
-      ap (λ (x : Bool). cond x G.Version (cond (row5 l) G.Malformed (decoded (kind_in l) l))) row4_same
-      ∙ ap (cond (row4 m) G.Version) (go (row5 l) refl)
-      ∙ ap (λ (x : Bool). cond (row4 m) G.Version (cond x G.Malformed (decoded (kind_in m) m))) row5_same
+      ap (λ (x : Bool). cond x (Err ReadError.Version) (cond (row5 l) (Err ReadError.Malformed) (decoded (kind_in l) l))) row4_same
+      ∙ ap (cond (row4 m) (Err ReadError.Version)) (go (row5 l) refl)
+      ∙ ap (λ (x : Bool). cond (row4 m) (Err ReadError.Version) (cond x (Err ReadError.Malformed) (decoded (kind_in m) m))) row5_same
     where
-      go : (b : Bool) → row5 l ≡ b → cond b G.Malformed (decoded (kind_in l) l) ≡ cond b G.Malformed (decoded (kind_in m) m)
+      go : (b : Bool) → row5 l ≡ b → cond b (Err ReadError.Malformed) (decoded (kind_in l) l) ≡ cond b (Err ReadError.Malformed) (decoded (kind_in m) m)
       go true h = refl
       go false h = decoded_same (kind_in l) l m (e h) ∙ ap (λ (x : ℕ). decoded (kind_of (low_half x)) m) (start 0 1 (lit≤ tt))
 

@@ -1,10 +1,8 @@
 -- Laws of reading, for callers and auditors: which bytes each answer is given for, both ways round, and what an answer says.
-use Rattle.std.specs.Prelude.{ℕ, ◌≤◌, ◌≡◌, refl, Bool, true, false, cond, ◌||◌, not, List, length, ltb, eqb}
+use Rattle.std.specs.Prelude.{ℕ, ◌≤◌, ◌≡◌, refl, Bool, true, false, cond, ◌||◌, not, List, length, ltb, eqb, Result, Ok, Err}
 use Rattle.std.proofs.Common.{sym, ◌∙◌, ap, ltb-false, le-ltb, eqb-true, eq-eqb}
 use Rattle.std.proofs.lemmas.Bool.{false≢true, not-false}
 use Rattle.time.specs.declared.Time.{Time}
-use Rattle.time.specs.declared.ReadAnswer.{ReadAnswer}
-use Rattle.time.specs.declared.ReadAnswer.TheVariants as R
 use Rattle.time.specs.Units.{time_of_wire, time_words, wire}
 use Rattle.time.specs.WireLaws.{read_in}
 use Rattle.wire.specs.declared.MessageType.{MessageType}
@@ -12,17 +10,18 @@ use Rattle.wire.specs.declared.Kind.{Kind}
 use Rattle.wire.specs.declared.Kind.TheVariants as K
 use Rattle.wire.specs.declared.Header.{Header}
 use Rattle.wire.specs.declared.Body.{Body}
-use Rattle.reading.specs.declared.Reading.{Reading}
-use Rattle.reading.specs.declared.Reading.TheVariants as G
 use Rattle.octets.specs.Bytes.{field_at, Bytes}
 use Rattle.wire.specs.Layout.{row, header_of, body_of, type_of, timestamp_of, timestamp_at, body, low_half, minor_version_ptp_version_ptp, major_sdo_id_message_type, message_length}
-use Rattle.reading.specs.Reading.{row4, row5, reserved, short_for, timed, message_of, decoded, read_of, kind_in}
+use Rattle.reading.specs.Reading.{row4, row5, reserved, short_for, timed, message_of, decoded, read_of, kind_in, Reading}
 use Rattle.reading.specs.Numbers.{number_of, kind_number}
 use Rattle.octets.proofs.BytesLaws.{neither, apart, number_lt}
 use Rattle.wire.proofs.LayoutLaws.{kind_number_lem, type_body, timestamp_body}
+use Rattle.time.specs.declared.TimeError.{TimeError}
+use Rattle.reading.specs.declared.Received.{Received}
+use Rattle.reading.specs.declared.ReadError.{ReadError}
 
 -- each timestamp of bytes is a time, so row 5 is all that makes bytes malformed (`malformed_is`)
-pub timestamp_read : (at : ℕ) (l : List ℕ) → Bytes l → time_of_wire (timestamp_at at l) ≡ R.Value (time_words (wire (timestamp_at at l)))
+pub timestamp_read : (at : ℕ) (l : List ℕ) → Bytes l → time_of_wire (timestamp_at at l) ≡ Ok (time_words (wire (timestamp_at at l)))
 unfolding timestamp_at
 timestamp_read at l b = read_in (timestamp_at at l) (number_lt at 6 l b)
 
@@ -71,11 +70,11 @@ row5_passed l p =
 -- ---- which of the three an answer came from
 
 data Came (a b : Bool) (r x : Reading) : Type 0 where
-  by_row4 : a ≡ true → x ≡ G.Version → Came a b r x
-  by_row5 : a ≡ false → b ≡ true → x ≡ G.Malformed → Came a b r x
+  by_row4 : a ≡ true → x ≡ Err ReadError.Version → Came a b r x
+  by_row5 : a ≡ false → b ≡ true → x ≡ Err ReadError.Malformed → Came a b r x
   by_type : a ≡ false → b ≡ false → r ≡ x → Came a b r x
 
-came : (a b : Bool) (r x : Reading) → cond a G.Version (cond b G.Malformed r) ≡ x → Came a b r x
+came : (a b : Bool) (r x : Reading) → cond a (Err ReadError.Version) (cond b (Err ReadError.Malformed) r) ≡ x → Came a b r x
 came true b r x e = by_row4 refl (sym e)
 came false true r x e = by_row5 refl refl (sym e)
 came false false r x e = by_type refl refl e
@@ -86,48 +85,48 @@ read_decoded l a b = simp (a, b)
 
 -- ---- row 4
 
-pub version_when : (l : List ℕ) → row4 l ≡ true → read_of l ≡ G.Version
+pub version_when : (l : List ℕ) → row4 l ≡ true → read_of l ≡ Err ReadError.Version
 unfolding read_of
 version_when l a = simp a
 
-timed_not_version : (a : ReadAnswer) (h : Header) (b : Body) → timed a h b ≡ G.Version → ⊥
-timed_not_version (R.Value t) h b e = apart cc
-timed_not_version R.Seconds h b e = apart cc
+timed_not_version : (a : Result Time TimeError) (h : Header) (b : Body) → timed a h b ≡ Err ReadError.Version → ⊥
+timed_not_version (Ok t) h b e = apart cc
+timed_not_version (Err TimeError.OutOfRange) h b e = apart cc
 
-not_version : (k : Kind) (l : List ℕ) → decoded k l ≡ G.Version → ⊥
+not_version : (k : Kind) (l : List ℕ) → decoded k l ≡ Err ReadError.Version → ⊥
 unfolding message_of
 not_version (K.Table t) l e = timed_not_version (time_of_wire (timestamp_at body l)) (header_of l) (body_of t l) e
 not_version K.Host l e = apart cc
 not_version K.Reserved l e = apart cc
 
-pub version_is : (l : List ℕ) → read_of l ≡ G.Version → row4 l ≡ true
+pub version_is : (l : List ℕ) → read_of l ≡ Err ReadError.Version → row4 l ≡ true
 unfolding read_of
-version_is l e = go (came (row4 l) (row5 l) (decoded (kind_in l) l) G.Version e)
+version_is l e = go (came (row4 l) (row5 l) (decoded (kind_in l) l) (Err ReadError.Version) e)
   where
-    go : Came (row4 l) (row5 l) (decoded (kind_in l) l) G.Version → row4 l ≡ true
+    go : Came (row4 l) (row5 l) (decoded (kind_in l) l) (Err ReadError.Version) → row4 l ≡ true
     go (by_row4 a x) = a
     go (by_row5 a b x) = absurd (apart cc)
     go (by_type a b x) = absurd (not_version (kind_in l) l x)
 
 -- ---- row 5
 
-pub malformed_when : (l : List ℕ) → row4 l ≡ false → row5 l ≡ true → read_of l ≡ G.Malformed
+pub malformed_when : (l : List ℕ) → row4 l ≡ false → row5 l ≡ true → read_of l ≡ Err ReadError.Malformed
 unfolding read_of
 malformed_when l a b = simp (a, b)
 
-not_malformed : (k : Kind) (l : List ℕ) → Bytes l → reserved k ≡ false → decoded k l ≡ G.Malformed → ⊥
+not_malformed : (k : Kind) (l : List ℕ) → Bytes l → reserved k ≡ false → decoded k l ≡ Err ReadError.Malformed → ⊥
 unfolding message_of
 not_malformed (K.Table t) l b r e =
-    let g : timed (R.Value (time_words (wire (timestamp_at body l)))) (header_of l) (body_of t l) ≡ G.Malformed = rw (timestamp_read body l b) at e in
+    let g : timed (Ok (time_words (wire (timestamp_at body l)))) (header_of l) (body_of t l) ≡ Err ReadError.Malformed = rw (timestamp_read body l b) at e in
     apart cc
 not_malformed K.Host l b r e = apart cc
 not_malformed K.Reserved l b r e = apart cc
 
-pub malformed_is : (l : List ℕ) → Bytes l → read_of l ≡ G.Malformed → (row4 l ≡ false) × (row5 l ≡ true)
+pub malformed_is : (l : List ℕ) → Bytes l → read_of l ≡ Err ReadError.Malformed → (row4 l ≡ false) × (row5 l ≡ true)
 unfolding read_of
-malformed_is l bytes e = go (came (row4 l) (row5 l) (decoded (kind_in l) l) G.Malformed e)
+malformed_is l bytes e = go (came (row4 l) (row5 l) (decoded (kind_in l) l) (Err ReadError.Malformed) e)
   where
-    go : Came (row4 l) (row5 l) (decoded (kind_in l) l) G.Malformed → (row4 l ≡ false) × (row5 l ≡ true)
+    go : Came (row4 l) (row5 l) (decoded (kind_in l) l) (Err ReadError.Malformed) → (row4 l ≡ false) × (row5 l ≡ true)
     go (by_row4 a x) = absurd (apart cc)
     go (by_row5 a b x) = (a, b)
     go (by_type a b x) = absurd (not_malformed (kind_in l) l bytes (past_row5 l b).a_type x)
@@ -140,24 +139,24 @@ pub record IsHost (l : List ℕ) (h : Header) : Type 0 where
   pub kind : kind_in l ≡ K.Host
   pub header_is : h ≡ header_of l
 
-pub host_when : (l : List ℕ) → row4 l ≡ false → row5 l ≡ false → kind_in l ≡ K.Host → read_of l ≡ G.Host (header_of l)
+pub host_when : (l : List ℕ) → row4 l ≡ false → row5 l ≡ false → kind_in l ≡ K.Host → read_of l ≡ Ok (Received.Host (header_of l))
 host_when l a b k = read_decoded l a b ∙ ap (λ (x : Kind). decoded x l) k
 
-timed_not_host : (a : ReadAnswer) (h : Header) (b : Body) (g : Header) → timed a h b ≡ G.Host g → ⊥
-timed_not_host (R.Value t) h b g e = apart cc
-timed_not_host R.Seconds h b g e = apart cc
+timed_not_host : (a : Result Time TimeError) (h : Header) (b : Body) (g : Header) → timed a h b ≡ Ok (Received.Host g) → ⊥
+timed_not_host (Ok t) h b g e = apart cc
+timed_not_host (Err TimeError.OutOfRange) h b g e = apart cc
 
-decoded_host : (k : Kind) (l : List ℕ) (h : Header) → decoded k l ≡ G.Host h → (k ≡ K.Host) × (h ≡ header_of l)
+decoded_host : (k : Kind) (l : List ℕ) (h : Header) → decoded k l ≡ Ok (Received.Host h) → (k ≡ K.Host) × (h ≡ header_of l)
 unfolding message_of
 decoded_host (K.Table t) l h e = absurd (timed_not_host (time_of_wire (timestamp_at body l)) (header_of l) (body_of t l) h e)
 decoded_host K.Host l h e = (refl, cc)
 decoded_host K.Reserved l h e = absurd (apart cc)
 
-pub host_is : (l : List ℕ) (h : Header) → read_of l ≡ G.Host h → IsHost l h
+pub host_is : (l : List ℕ) (h : Header) → read_of l ≡ Ok (Received.Host h) → IsHost l h
 unfolding read_of
-host_is l h e = go (came (row4 l) (row5 l) (decoded (kind_in l) l) (G.Host h) e)
+host_is l h e = go (came (row4 l) (row5 l) (decoded (kind_in l) l) (Ok (Received.Host h)) e)
   where
-    go : Came (row4 l) (row5 l) (decoded (kind_in l) l) (G.Host h) → IsHost l h
+    go : Came (row4 l) (row5 l) (decoded (kind_in l) l) (Ok (Received.Host h)) → IsHost l h
     go (by_row4 a x) = absurd (apart cc)
     go (by_row5 a b x) = absurd (apart cc)
     go (by_type a b x) =
@@ -172,7 +171,7 @@ pub record IsMessage (l : List ℕ) (h : Header) (b : Body) (t : Time) : Type 0 
   pub kind : kind_in l ≡ K.Table (type_of b)
   pub header_is : h ≡ header_of l
   pub body_is : b ≡ body_of (type_of b) l
-  pub time : time_of_wire (timestamp_of b) ≡ R.Value t
+  pub time : time_of_wire (timestamp_of b) ≡ Ok t
   pub header_there : 34 ≤ length l
   pub body_stated : (row (type_of b)).length ≤ h.length
   pub stated_there : h.length ≤ length l
@@ -180,19 +179,19 @@ pub record IsMessage (l : List ℕ) (h : Header) (b : Body) (t : Time) : Type 0 
   pub number : h.kind ≡ (row (type_of b)).number
 
 -- where neither row refuses and the type is in the table: with the time of its timestamp, which bytes always have
-pub message_when : (l : List ℕ) (m : MessageType) (t : Time) → row4 l ≡ false → row5 l ≡ false → kind_in l ≡ K.Table m → time_of_wire (timestamp_at body l) ≡ R.Value t → read_of l ≡ G.Message (header_of l) (body_of m l) t
+pub message_when : (l : List ℕ) (m : MessageType) (t : Time) → row4 l ≡ false → row5 l ≡ false → kind_in l ≡ K.Table m → time_of_wire (timestamp_at body l) ≡ Ok t → read_of l ≡ Ok (Received.Message (header_of l) (body_of m l) t)
 unfolding message_of
 message_when l m t a b k e =
-    read_decoded l a b ∙ ap (λ (x : Kind). decoded x l) k ∙ ap (λ (x : ReadAnswer). timed x (header_of l) (body_of m l)) e
+    read_decoded l a b ∙ ap (λ (x : Kind). decoded x l) k ∙ ap (λ (x : Result Time TimeError). timed x (header_of l) (body_of m l)) e
 
-pub message_of_bytes : (l : List ℕ) (m : MessageType) → Bytes l → row4 l ≡ false → row5 l ≡ false → kind_in l ≡ K.Table m → read_of l ≡ G.Message (header_of l) (body_of m l) (time_words (wire (timestamp_at body l)))
+pub message_of_bytes : (l : List ℕ) (m : MessageType) → Bytes l → row4 l ≡ false → row5 l ≡ false → kind_in l ≡ K.Table m → read_of l ≡ Ok (Received.Message (header_of l) (body_of m l) (time_words (wire (timestamp_at body l))))
 message_of_bytes l m bytes a b k = message_when l m (time_words (wire (timestamp_at body l))) a b k (timestamp_read body l bytes)
 
-timed_message : (a : ReadAnswer) (g h : Header) (c b : Body) (t : Time) → timed a g c ≡ G.Message h b t → (a ≡ R.Value t) × (h ≡ g) × (b ≡ c)
-timed_message (R.Value s) g h c b t e = (cc, cc, cc)
-timed_message R.Seconds g h c b t e = absurd (apart cc)
+timed_message : (a : Result Time TimeError) (g h : Header) (c b : Body) (t : Time) → timed a g c ≡ Ok (Received.Message h b t) → (a ≡ Ok t) × (h ≡ g) × (b ≡ c)
+timed_message (Ok s) g h c b t e = (cc, cc, cc)
+timed_message (Err TimeError.OutOfRange) g h c b t e = absurd (apart cc)
 
-decoded_message : (k : Kind) (l : List ℕ) (h : Header) (b : Body) (t : Time) → decoded k l ≡ G.Message h b t → (k ≡ K.Table (type_of b)) × (h ≡ header_of l) × (b ≡ body_of (type_of b) l) × (time_of_wire (timestamp_of b) ≡ R.Value t)
+decoded_message : (k : Kind) (l : List ℕ) (h : Header) (b : Body) (t : Time) → decoded k l ≡ Ok (Received.Message h b t) → (k ≡ K.Table (type_of b)) × (h ≡ header_of l) × (b ≡ body_of (type_of b) l) × (time_of_wire (timestamp_of b) ≡ Ok t)
 unfolding message_of
 decoded_message (K.Table m) l h b t e =
     let (v, g, c) = timed_message (time_of_wire (timestamp_at body l)) (header_of l) h (body_of m l) b t e in
@@ -202,11 +201,11 @@ decoded_message (K.Table m) l h b t e =
 decoded_message K.Host l h b t e = absurd (apart cc)
 decoded_message K.Reserved l h b t e = absurd (apart cc)
 
-pub message_is : (l : List ℕ) (h : Header) (b : Body) (t : Time) → read_of l ≡ G.Message h b t → IsMessage l h b t
+pub message_is : (l : List ℕ) (h : Header) (b : Body) (t : Time) → read_of l ≡ Ok (Received.Message h b t) → IsMessage l h b t
 unfolding read_of header_of
-message_is l h b t e = go (came (row4 l) (row5 l) (decoded (kind_in l) l) (G.Message h b t) e)
+message_is l h b t e = go (came (row4 l) (row5 l) (decoded (kind_in l) l) (Ok (Received.Message h b t)) e)
   where
-    go : Came (row4 l) (row5 l) (decoded (kind_in l) l) (G.Message h b t) → IsMessage l h b t
+    go : Came (row4 l) (row5 l) (decoded (kind_in l) l) (Ok (Received.Message h b t)) → IsMessage l h b t
     go (by_row4 a x) = absurd (apart cc)
     go (by_row5 a b x) = absurd (apart cc)
     go (by_type p q x) =

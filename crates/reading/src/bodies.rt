@@ -1,11 +1,11 @@
 // The bodies, read where they stand in a message.
-ghost use Rattle.std.specs.Prelude.{◌≡◌, ◌+◌, ◌≤◌, cond, ltb, length};
-ghost use Rattle.reading.specs.declared.Reading.TheVariants.{Malformed};
+ghost use Rattle.std.specs.Prelude.{◌≡◌, ◌+◌, ◌≤◌, cond, ltb, length, Err};
+ghost use Rattle.reading.specs.declared.ReadError.TheVariants.{Malformed};
 ghost use Rattle.wire.specs.Layout.{row, header_of, body_of, timestamp_at, identity_at, body};
 ghost use Rattle.reading.specs.Reading.{message_of};
 
-use crate::Reading;
-use time::{ReadAnswer, Time, WireTimestamp};
+use crate::{ReadError, Received};
+use time::{Time, WireTimestamp};
 use wire::{Body, Header, Identity, MessageType, fields};
 
 fn requester_at(s: &[u8]) -> Identity
@@ -43,22 +43,21 @@ fn body_at(s: &[u8], t: MessageType, stamp: WireTimestamp) -> Body
 }
 
 // The message of a type, if its stated length is not short of the table's.
-pub(crate) fn message_at(s: &[u8], t: MessageType, header: Header) -> Reading
+pub(crate) fn message_at(s: &[u8], t: MessageType, header: Header) -> Result<Received, ReadError>
     requires { (header ≡ header_of s.now) × (header.length ≤ length s.now) }
-    ensures { result ≡ cond (ltb header.length (row t).length) Malformed (message_of t s.now) }
+    ensures { result ≡ cond (ltb header.length (row t).length) (Err Malformed) (message_of t s.now) }
 {
     let stated = header.length;
     if stated < t.length() {
-        return Reading::Malformed;
+        return Err(ReadError::Malformed);
     }
     let stamp = fields::get_timestamp(s, 34);
-    let read = Time::of_wire(stamp);
-    match read {
-        ReadAnswer::Value(time) => Reading::Message {
+    match Time::of_wire(stamp) {
+        Ok(time) => Ok(Received::Message {
             header,
             body: body_at(s, t, stamp),
             time,
-        },
-        ReadAnswer::Seconds => Reading::Malformed,
+        }),
+        Err(_) => Err(ReadError::Malformed),
     }
 }

@@ -10,10 +10,9 @@ mod headers;
 use time::Time;
 use wire::{Body, Header, Kind};
 
-// What bytes are: a message, with the time that its timestamp means; a message that is the host's; or
-// what document 01's table refuses, by row 4 or by row 5.
+// What bytes are: a message, with the time that its timestamp means; or a message that is the host's.
 #[derive(Clone, Copy)]
-pub enum Reading {
+pub enum Received {
     Message {
         header: Header,
         body: Body,
@@ -22,34 +21,38 @@ pub enum Reading {
     Host {
         header: Header,
     },
+}
+
+// What is no message of this version, by row 4 of the table, or is malformed, by row 5.
+#[derive(Clone, Copy, Debug, PartialEq, Eq)]
+pub enum ReadError {
     Version,
     Malformed,
 }
 
 // Reads the message that s begins with.
-pub fn read(s: &[u8]) -> Reading
+pub fn read(s: &[u8]) -> Result<Received, ReadError>
     ensures { result ≡ read_of s.now }
 {
     let n = s.len();
     if n < 2 {
-        return Reading::Version;
+        return Err(ReadError::Version);
     }
     let second = octets::get_u8(s, 1);
     if second % 16 != 2 {
-        return Reading::Version;
+        return Err(ReadError::Version);
     }
     if n < 34 {
-        return Reading::Malformed;
+        return Err(ReadError::Malformed);
     }
     let header = headers::header_at(s);
-    let stated = octets::size(header.length);
+    let stated = usize::from(header.length);
     if (stated < 34) | (n < stated) {
-        return Reading::Malformed;
+        return Err(ReadError::Malformed);
     }
-    let kind = Kind::of(header.kind);
-    match kind {
+    match Kind::from(header.kind) {
         Kind::Table(t) => bodies::message_at(s, t, header),
-        Kind::Host => Reading::Host { header },
-        Kind::Reserved => Reading::Malformed,
+        Kind::Host => Ok(Received::Host { header }),
+        Kind::Reserved => Err(ReadError::Malformed),
     }
 }

@@ -1,8 +1,7 @@
 -- The record with one part replaced, and what a port and a Slave begin with. (antt has no update of a record, so each is written out.)
-use Rattle.std.specs.Prelude.{ℕ, Bool, eqb}
+use Rattle.std.specs.Prelude.{ℕ, Bool, eqb, Some, None}
 use Rattle.wire.specs.declared.Identity.{Identity}
 use Rattle.time.specs.declared.Duration.{Duration}
-use Rattle.record.specs.declared.MaybeDuration.{MaybeDuration}
 use Rattle.record.specs.declared.Exchange.{Exchange}
 use Rattle.record.specs.declared.SlaveState.{SlaveState}
 use Rattle.record.specs.declared.PortState.{PortState}
@@ -48,11 +47,11 @@ abbrev pub with_delay : SlaveState → Exchange → SlaveState
 with_delay s x = record { master = s.master; sync = s.sync; delay = x; raw = s.raw }
 
 abbrev pub with_raw : SlaveState → Duration → SlaveState
-with_raw s d = record { master = s.master; sync = s.sync; delay = s.delay; raw = MaybeDuration.Some d }
+with_raw s d = record { master = s.master; sync = s.sync; delay = s.delay; raw = Some d }
 
 -- what a Slave has at its beginning ('Set state'): neither exchange open, and no raw offset from before
 abbrev pub slave_of : Identity → SlaveState
-slave_of m = record { master = m; sync = Exchange.Empty; delay = Exchange.Empty; raw = MaybeDuration.None }
+slave_of m = record { master = m; sync = Exchange.Empty; delay = Exchange.Empty; raw = None }
 
 -- ---- the record
 
@@ -63,7 +62,7 @@ abbrev pub with_peer : Port → PeerState → Port
 with_peer p x = record { config = p.config; state = p.state; peer = x; mean = p.mean; ids = p.ids }
 
 abbrev pub with_mean : Port → Duration → Port
-with_mean p d = record { config = p.config; state = p.state; peer = p.peer; mean = MaybeDuration.Some d; ids = p.ids }
+with_mean p d = record { config = p.config; state = p.state; peer = p.peer; mean = Some d; ids = p.ids }
 
 abbrev pub with_ids : Port → Ids → Port
 with_ids p x = record { config = p.config; state = p.state; peer = p.peer; mean = p.mean; ids = x }
@@ -78,6 +77,6 @@ port_of c =
       config = c;
       state = PortState.Listening;
       peer = PeerState.Empty;
-      mean = MaybeDuration.None;
+      mean = None;
       ids = record { sync = first_id; delay = first_id; peer = first_id };
     }

@@ -4,8 +4,9 @@ ghost use Rattle.record.specs.Same.{same_identity};
 
 use wire::Identity;
 
+#[tactic(auto, unfolding(crate::specs::Same::same_identity))]
 pub fn same_identity(a: Identity, b: Identity) -> bool
     ensures { result ≡ same_identity a b }
 {
-    (a.clock == b.clock) & (a.port == b.port)
+    a == b
 }

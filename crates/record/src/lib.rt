@@ -11,45 +11,27 @@ pub mod sequence;
 use time::{Duration, Time};
 use wire::Identity;
 
-#[derive(Clone, Copy)]
-pub enum MaybeTime {
-    None,
-    Some(Time),
-}
-
-#[derive(Clone, Copy)]
-pub enum MaybeDuration {
-    None,
-    Some(Duration),
-}
-
-#[derive(Clone, Copy)]
-pub enum MaybeIdentity {
-    None,
-    Some(Identity),
-}
-
 // A sync or a delay exchange, with the times that it holds.
-#[derive(Clone, Copy)]
+#[derive(Clone, Copy, PartialEq, Eq)]
 pub enum Exchange {
     Empty,
     Measuring {
         id: u16,
-        send: MaybeTime,
-        receive: MaybeTime,
+        send: Option<Time>,
+        receive: Option<Time>,
     },
 }
 
 // What the port keeps only as Slave. raw is the last raw sync offset.
-#[derive(Clone, Copy)]
+#[derive(Clone, Copy, PartialEq, Eq)]
 pub struct SlaveState {
     pub master: Identity,
     pub sync: Exchange,
     pub delay: Exchange,
-    pub raw: MaybeDuration,
+    pub raw: Option<Duration>,
 }
 
-#[derive(Clone, Copy)]
+#[derive(Clone, Copy, PartialEq, Eq)]
 pub enum PortState {
     Listening,
     Master,
@@ -59,16 +41,16 @@ pub enum PortState {
 }
 
 // The peer exchange, which every state has.
-#[derive(Clone, Copy)]
+#[derive(Clone, Copy, PartialEq, Eq)]
 pub enum PeerState {
     Empty,
     Measuring {
         id: u16,
-        responder: MaybeIdentity,
-        request_send: MaybeTime,
-        request_receive: MaybeTime,
-        response_send: MaybeTime,
-        response_receive: MaybeTime,
+        responder: Option<Identity>,
+        request_send: Option<Time>,
+        request_receive: Option<Time>,
+        response_send: Option<Time>,
+        response_receive: Option<Time>,
     },
     Measured {
         id: u16,
@@ -76,14 +58,14 @@ pub enum PeerState {
     },
 }
 
-#[derive(Clone, Copy)]
+#[derive(Clone, Copy, PartialEq, Eq)]
 pub enum Mechanism {
     EndToEnd,
     Peer,
 }
 
 // What a port is set up with. An interval is a byte in two's complement, as on the wire.
-#[derive(Clone, Copy)]
+#[derive(Clone, Copy, PartialEq, Eq)]
 pub struct Config {
     pub identity: Identity,
     pub sdo: u16,
@@ -96,7 +78,7 @@ pub struct Config {
 }
 
 // The ids that the next message of each kind takes.
-#[derive(Clone, Copy)]
+#[derive(Clone, Copy, PartialEq, Eq)]
 pub struct Ids {
     pub sync: u16,
     pub delay: u16,
@@ -104,12 +86,12 @@ pub struct Ids {
 }
 
 // The record. mean is the mean delay that the filter last gave.
-#[derive(Clone, Copy)]
+#[derive(Clone, Copy, PartialEq, Eq)]
 pub struct Port {
     pub config: Config,
     pub state: PortState,
     pub peer: PeerState,
-    pub mean: MaybeDuration,
+    pub mean: Option<Duration>,
     pub ids: Ids,
 }
 
@@ -134,23 +116,17 @@ pub enum NewState {
     Slave(Identity),
 }
 
-#[derive(Clone, Copy)]
-pub enum MaybeNanoseconds {
-    None,
-    Some(u64),
-}
-
 // What the filter answers to a measurement.
 #[derive(Clone, Copy)]
 pub struct FilterUpdate {
-    pub mean_delay: MaybeDuration,
-    pub next_update: MaybeNanoseconds,
+    pub mean_delay: Option<Duration>,
+    pub next_update: Option<u64>,
 }
 
 // ---- answers
 
 // A case for each row of the table.
-#[derive(Clone, Copy)]
+#[derive(Clone, Copy, PartialEq, Eq)]
 pub enum Outcome {
     Taken,
     Buffer,
@@ -169,23 +145,17 @@ pub enum Measurement {
     Sync {
         event_time: Time,
         raw: Duration,
-        offset: MaybeDuration,
+        offset: Option<Duration>,
     },
     Delay {
         event_time: Time,
         raw: Duration,
-        delay: MaybeDuration,
+        delay: Option<Duration>,
     },
     Peer {
         event_time: Time,
         delay: Duration,
     },
-}
-
-#[derive(Clone, Copy)]
-pub enum MaybeMeasurement {
-    None,
-    Some(Measurement),
 }
 
 // What the host has to do. Timers are in nanoseconds; a packet is what the buffer begins with.
@@ -209,9 +179,10 @@ pub struct Todo {
 pub struct Answer {
     pub outcome: Outcome,
     pub port: Port,
-    pub measurement: MaybeMeasurement,
+    pub measurement: Option<Measurement>,
     pub length: usize,
     pub actions: [Todo; 2],
     pub count: u8,
+    // whether the filter is reset, with or without a measurement: a part of the answer by itself
     pub reset: bool,
 }

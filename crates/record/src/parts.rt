@@ -1,9 +1,9 @@
-// The record with one part replaced, what a port and a Slave begin with, and a state's number. Handlers change a
-// record through these alone.
+// The record with one part replaced, what a port and a Slave begin with, and a state's number. Handlers change a record through
+// these alone. There is a method for each part, since each has its own type and its own definition.
 ghost use Rattle.std.specs.Prelude.{◌≡◌};
 ghost use Rattle.record.specs.Record.{state_number, with_sync, with_delay, with_raw, slave_of, with_state, with_peer, with_mean, with_ids, with_slave, port_of};
 
-use crate::{Config, Exchange, Ids, MaybeDuration, PeerState, Port, PortState, SlaveState};
+use crate::{Config, Exchange, Ids, PeerState, Port, PortState, SlaveState};
 use time::Duration;
 use wire::Identity;
 
@@ -31,30 +31,30 @@ impl SlaveState {
             master,
             sync: Exchange::Empty,
             delay: Exchange::Empty,
-            raw: MaybeDuration::None,
+            raw: None,
         }
     }
 
-    pub fn with_sync(self, sync: Exchange) -> SlaveState
+    pub fn with_sync(mut self, sync: Exchange) -> SlaveState
         ensures { result ≡ with_sync self sync }
     {
-        SlaveState { sync, ..self }
+        self.sync = sync;
+        self
     }
 
-    pub fn with_delay(self, delay: Exchange) -> SlaveState
+    pub fn with_delay(mut self, delay: Exchange) -> SlaveState
         ensures { result ≡ with_delay self delay }
     {
-        SlaveState { delay, ..self }
+        self.delay = delay;
+        self
     }
 
     // Keeps the last raw sync offset.
-    pub fn with_raw(self, raw: Duration) -> SlaveState
+    pub fn with_raw(mut self, raw: Duration) -> SlaveState
         ensures { result ≡ with_raw self raw }
     {
-        SlaveState {
-            raw: MaybeDuration::Some(raw),
-            ..self
-        }
+        self.raw = Some(raw);
+        self
     }
 }
 
@@ -72,15 +72,16 @@ impl Port {
             config,
             state: PortState::Listening,
             peer: PeerState::Empty,
-            mean: MaybeDuration::None,
+            mean: None,
             ids,
         }
     }
 
-    pub fn with_state(self, state: PortState) -> Port
+    pub fn with_state(mut self, state: PortState) -> Port
         ensures { result ≡ with_state self state }
     {
-        Port { state, ..self }
+        self.state = state;
+        self
     }
 
     pub fn with_slave(self, slave: SlaveState) -> Port
@@ -89,25 +90,25 @@ impl Port {
         self.with_state(PortState::Slave(slave))
     }
 
-    pub fn with_peer(self, peer: PeerState) -> Port
+    pub fn with_peer(mut self, peer: PeerState) -> Port
         ensures { result ≡ with_peer self peer }
     {
-        Port { peer, ..self }
+        self.peer = peer;
+        self
     }
 
     // Stores the mean delay that the filter gave.
-    pub fn with_mean(self, mean: Duration) -> Port
+    pub fn with_mean(mut self, mean: Duration) -> Port
         ensures { result ≡ with_mean self mean }
     {
-        Port {
-            mean: MaybeDuration::Some(mean),
-            ..self
-        }
+        self.mean = Some(mean);
+        self
     }
 
-    pub fn with_ids(self, ids: Ids) -> Port
+    pub fn with_ids(mut self, ids: Ids) -> Port
         ensures { result ≡ with_ids self ids }
     {
-        Port { ids, ..self }
+        self.ids = ids;
+        self
     }
 }

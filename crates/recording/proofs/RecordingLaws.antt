@@ -1,5 +1,5 @@
 -- Laws of what is written: how long each part is, how a field is put together, and what is answered for it.
-use Rattle.std.specs.Prelude.{ℕ, zero, suc, ◌+◌, ◌-◌, ◌/◌, ◌%◌, ◌≤◌, ◌<◌, ◌≡◌, refl, Bool, true, false, List, [], ◌∷◌, ◌++◌, leb}
+use Rattle.std.specs.Prelude.{ℕ, zero, suc, ◌+◌, ◌-◌, ◌/◌, ◌%◌, ◌≤◌, ◌<◌, ◌≡◌, refl, Bool, true, false, List, [], ◌∷◌, ◌++◌, leb, Option, Some, None, Ok, Err}
 use Rattle.std.proofs.Common.{sym, ◌∙◌, ap, append-nil, arith, length-append}
 use borrow.Author.Tests.{lt-leb, le-leb}
 use Rattle.std.proofs.Math.ListN.{length}
@@ -8,18 +8,16 @@ use Rattle.time.specs.declared.Duration.{Duration}
 use Rattle.wire.specs.declared.Identity.{Identity}
 use Rattle.octets.specs.Bytes.{spell}
 use Rattle.octets.proofs.BytesLaws.{length-spell}
-use Rattle.writing.specs.declared.Written.{Written}
 use Rattle.record.specs.declared.Config.{Config}
 use Rattle.record.specs.declared.Context.{Context}
 use Rattle.record.specs.declared.FilterUpdate.{FilterUpdate}
-use Rattle.record.specs.declared.MaybeDuration.{MaybeDuration}
-use Rattle.record.specs.declared.MaybeNanoseconds.{MaybeNanoseconds}
 use Rattle.record.specs.declared.NewState.{NewState}
 use Rattle.rules.specs.Events.{event, general, stamp, sync_timer, delay_timer, filter_answer, set_state}
 use Rattle.text.specs.Page.{Wrote}
 use Rattle.text.specs.PageLaws.{wrote_then, wrote_as, wrote_first}
 use Rattle.recording.specs.Recording.{field_bytes, time_bytes, duration_bytes, identity_bytes, context_bytes, state_bytes, mean_bytes, next_bytes, mechanism_byte, config_bytes, event_bytes, appended, left_after, Appends}
 use Rattle.recording.specs.RecordingLaws.{config_value}
+use Rattle.writing.specs.declared.WriteError.{WriteError}
 
 -- ---- a number, byte by byte
 
@@ -58,11 +56,11 @@ length_field_of tag n v h = length_field tag v ∙ ap (λ (k : ℕ). 3 + k) h
 pub length_context_with : (kind id : ℕ) (who : Identity) → length (kind ∷ (spell 2 id ++ identity_bytes who)) ≡ 13
 length_context_with kind id who = omega (arith, length-append (spell 2 id) (identity_bytes who), length-spell 2 id, length_identity who)
 
-pub length_mean : (d : Duration) → length (mean_bytes (MaybeDuration.Some d)) ≡ 19
+pub length_mean : (d : Duration) → length (mean_bytes (Some d)) ≡ 19
 unfolding mean_bytes
 length_mean d = length_field_of 5 16 (duration_bytes d) (length_words d.hi d.lo)
 
-pub length_next : (ns : ℕ) → length (next_bytes (MaybeNanoseconds.Some ns)) ≡ 11
+pub length_next : (ns : ℕ) → length (next_bytes (Some ns)) ≡ 11
 unfolding next_bytes
 length_next ns = length_field_of _ 8 (spell 8 ns) (length-spell 8 ns)
 
@@ -81,15 +79,15 @@ state_most NewState.Passive = omega arith
 state_most NewState.Faulty = omega arith
 state_most (NewState.Slave master) = omega (arith, length_identity master)
 
-mean_most : (m : MaybeDuration) → length (mean_bytes m) ≤ 19
+mean_most : (m : Option Duration) → length (mean_bytes m) ≤ 19
 unfolding mean_bytes
-mean_most MaybeDuration.None = omega arith
-mean_most (MaybeDuration.Some d) = omega (arith, length_mean d)
+mean_most None = omega arith
+mean_most (Some d) = omega (arith, length_mean d)
 
-next_most : (n : MaybeNanoseconds) → length (next_bytes n) ≤ 11
+next_most : (n : Option ℕ) → length (next_bytes n) ≤ 11
 unfolding next_bytes
-next_most MaybeNanoseconds.None = omega arith
-next_most (MaybeNanoseconds.Some ns) = omega (arith, length_next ns)
+next_most None = omega arith
+next_most (Some ns) = omega (arith, length_next ns)
 
 -- of what code answers as a size
 module _ {n : ℕ} where
@@ -99,10 +97,10 @@ module _ {n : ℕ} where
   pub state_small : (s : NewState) → n ≡ length (state_bytes s) → n ≤ 11
   state_small s h = omega (arith, h, state_most s)
 
-  pub mean_small : (m : MaybeDuration) → n ≡ length (mean_bytes m) → n ≤ 19
+  pub mean_small : (m : Option Duration) → n ≡ length (mean_bytes m) → n ≤ 19
   mean_small m h = omega (arith, h, mean_most m)
 
-  pub next_small : (m : MaybeNanoseconds) → n ≡ length (next_bytes m) → n ≤ 11
+  pub next_small : (m : Option ℕ) → n ≡ length (next_bytes m) → n ≤ 11
   next_small m h = omega (arith, h, next_most m)
 
 -- ---- the values of the outer fields, and the fields
@@ -190,15 +188,15 @@ config_then c a b = field_then 0x0F 33 _ (length-config_value c) a b
 
 module _ (w d : List ℕ) (n : ℕ) (size : length w ≡ n) where
   -- there is room: the bytes, and behind them what lay there
-  pub appends : (fits : Bool) {e : List ℕ} {k : ℕ} → fits ≡ true → n ≤ length d → Wrote d 0 w e k → Appends fits w d (Written.Length n) e
+  pub appends : (fits : Bool) {e : List ℕ} {k : ℕ} → fits ≡ true → n ≤ length d → Wrote d 0 w e k → Appends fits w d (Ok n) e
   unfolding appended left_after
   appends fits {e} {k} f h p =
       let room : length w ≤ length d = omega (arith, size, h) in
       let t = le-leb (length w) (length d) room in
-      (simp (f, t) (ap Written.Length (sym size)), simp (f, t) (wrote_first p room).1)
+      (simp (f, t) (ap Ok (sym size)), simp (f, t) (wrote_first p room).1)
 
   -- there is none
-  pub appends_short : (fits : Bool) → fits ≡ true → length d < n → Appends fits w d Written.Short d
+  pub appends_short : (fits : Bool) → fits ≡ true → length d < n → Appends fits w d (Err WriteError.Short) d
   unfolding appended left_after
   appends_short fits f h =
       let t = lt-leb (length w) (length d) (omega (arith, size, h)) in
@@ -212,6 +210,6 @@ pub long_message : (n k : ℕ) → k < n → 1024 ≤ k → leb n 1024 ≡ false
 long_message n k h g = lt-leb n 1024 (omega arith)
 
 -- a message that is too long
-pub appends_unfit : (w d : List ℕ) (fits : Bool) → fits ≡ false → Appends fits w d Written.Unfit d
+pub appends_unfit : (w d : List ℕ) (fits : Bool) → fits ≡ false → Appends fits w d (Err WriteError.Unfit) d
 unfolding appended left_after
 appends_unfit w d fits f = (simp f, simp f)

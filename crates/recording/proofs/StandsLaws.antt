@@ -1,5 +1,5 @@
 -- Where bytes stand in a field: a part of what stands at a place stands there too or behind it, and it is read as it was written.
-use Rattle.std.specs.Prelude.{ℕ, ◌+◌, ◌^◌, ◌≤◌, ◌<◌, ◌≡◌, Bool, List, [], ◌∷◌, ◌++◌, length, get_or, take, drop}
+use Rattle.std.specs.Prelude.{ℕ, ◌+◌, ◌^◌, ◌≤◌, ◌<◌, ◌≡◌, Bool, List, [], ◌∷◌, ◌++◌, length, get_or, take, drop, Some, None}
 use Rattle.std.proofs.Math.Path.{refl, sym}
 use Rattle.std.proofs.Common.{◌∙◌, ap, append_assoc, append-nil, arith, le-ltb, length-append, drop_at, take_at}
 use Rattle.std.proofs.Math.Seq.{take-append_seam}
@@ -11,7 +11,6 @@ use Rattle.octets.specs.Bytes.{number, spell}
 use Rattle.octets.proofs.BytesLaws.{length-spell, number_past, number_inside, number-spell}
 use Rattle.wire.specs.Layout.{identity_at}
 use Rattle.wire.specs.LayoutLaws.{InWidths}
-use Rattle.event_log.specs.declared.Inner.{Inner}
 use Rattle.event_log.specs.Fields.{inner_of, time_at, duration_at, field_of, stated_of, seen, front_of}
 use Rattle.event_log.proofs.FieldsLaws.{inner_is, inner_other, front_whole, number_one}
 use Rattle.recording.specs.Recording.{field_bytes, time_bytes, duration_bytes, identity_bytes}
@@ -113,11 +112,11 @@ module _ {f : List ℕ} {at : ℕ} (tag : ℕ) (v : List ℕ) (small : length v 
       sym (stands_number 2 (length v) small (stands_first (spell 2 (length v)) v lying))
 
   -- it is found as the inner field at its place
-  pub stands_inner : inner_of f at tag ≡ Inner.At (at + 3) (length v)
+  pub stands_inner : inner_of f at tag ≡ Some (at + 3, length v)
   stands_inner = sym (inner_is f at tag (length v) stands_length (stands_room tag v s) (stands_tag tag v s))
 
   -- and not as one of another tag
-  pub stands_other : (k : ℕ) → (tag ≡ k → ⊥) → inner_of f at k ≡ Inner.No
+  pub stands_other : (k : ℕ) → (tag ≡ k → ⊥) → inner_of f at k ≡ None
   stands_other k h = sym (inner_other f at k (length v) stands_length (stands_room tag v s) (λ p. h (sym (stands_tag tag v s) ∙ p)))
 
 -- and at the front of some bytes it is read alone

@@ -1,12 +1,10 @@
 -- What is known of a configuration and of an event beforehand, because code holds its numbers in so many bits: each has room in its place of
 -- the log. Of single bytes nothing is asked, a message's among them: they are copied as they are.
-use Rattle.std.specs.Prelude.{◌^◌, ◌<◌}
+use Rattle.std.specs.Prelude.{ℕ, ◌^◌, ◌<◌, Option, Some, None}
 use Rattle.time.specs.declared.Time.{Time}
 use Rattle.time.specs.declared.Duration.{Duration}
 use Rattle.wire.specs.LayoutLaws.{InWidths}
 use Rattle.record.specs.declared.Config.{Config}
-use Rattle.record.specs.declared.MaybeDuration.{MaybeDuration}
-use Rattle.record.specs.declared.MaybeNanoseconds.{MaybeNanoseconds}
 use Rattle.record.specs.declared.NewState.{NewState}
 use Rattle.rules.specs.Events.{Event, event, general, stamp, sync_timer, delay_timer, filter_answer, set_state}
 use Rattle.rules.specs.Given.{StampIn}
@@ -19,13 +17,13 @@ pub record DurationIn (d : Duration) : Type 0 where
   pub hi : d.hi < 2 ^ 64
   pub lo : d.lo < 2 ^ 64
 
-abbrev pub MeanIn : MaybeDuration → Type 0
-MeanIn MaybeDuration.None = Unit {0}
-MeanIn (MaybeDuration.Some d) = DurationIn d
+abbrev pub MeanIn : Option Duration → Type 0
+MeanIn None = Unit {0}
+MeanIn (Some d) = DurationIn d
 
-abbrev pub NextIn : MaybeNanoseconds → Type 0
-NextIn MaybeNanoseconds.None = Unit {0}
-NextIn (MaybeNanoseconds.Some ns) = ns < 2 ^ 64
+abbrev pub NextIn : Option ℕ → Type 0
+NextIn None = Unit {0}
+NextIn (Some ns) = ns < 2 ^ 64
 
 abbrev pub StateIn : NewState → Type 0
 StateIn NewState.Listening = Unit {0}

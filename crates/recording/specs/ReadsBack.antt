@@ -3,20 +3,16 @@ use Rattle.std.specs.Prelude.{ℕ, ◌≡◌, Bool, true, false}
 use mathlib.Core.List.{List, [], ◌∷◌, ◌++◌}
 use Rattle.std.proofs.Math.ListN.{length}
 use Rattle.rules.specs.Events.{Event}
-use Rattle.event_log.specs.declared.Logged.{Logged}
-use Rattle.event_log.specs.declared.Next.{Next}
+use Rattle.event_log.specs.Told.{Next}
 use Rattle.event_log.specs.Fields.{front_of}
-use Rattle.streaming.specs.Log.{told}
 use Rattle.recording.specs.Recording.{event_bytes, recordable}
 use Rattle.recording.specs.Fitting.{Fitting}
 
 -- ---- what is said
 
--- at the front of its bytes, whatever follows them, stands an event that is told as e, and it has all of them
-pub record ReadsBack (e : Event) (t : List ℕ) (last : Bool) : Type 0 where
-  pub found : Logged
-  pub front : front_of false (event_bytes e ++ t) last ≡ Next.Event found (length (event_bytes e))
-  pub same : told (event_bytes e) found ≡ e
+-- at the front of its bytes, whatever follows them, stands the event e, and it has all of them
+abbrev pub ReadsBack : Event → List ℕ → Bool → Type 0
+ReadsBack e t last = front_of false (event_bytes e ++ t) last ≡ Next.Event e (length (event_bytes e))
 
 -- events' bytes, one behind the other
 unfoldable pub events_bytes : List Event → List ℕ

@@ -1,17 +1,15 @@
 -- Document 01, 'Event log': the bytes of the configuration and of each event, and what is promised of a buffer to which they are appended.
-use Rattle.std.specs.Prelude.{ℕ, ◌≡◌, Bool, true, ◌&&◌, cond, List, [], ◌∷◌, ◌++◌, length, drop, leb}
+use Rattle.std.specs.Prelude.{ℕ, ◌≡◌, Bool, true, ◌&&◌, cond, List, [], ◌∷◌, ◌++◌, length, drop, leb, Option, Some, None, Result, Ok, Err}
 use Rattle.time.specs.declared.Time.{Time}
 use Rattle.time.specs.declared.Duration.{Duration}
 use Rattle.wire.specs.declared.Identity.{Identity}
 use Rattle.octets.specs.Bytes.{spell}
-use Rattle.writing.specs.declared.Written.{Written}
 use Rattle.record.specs.declared.Config.{Config}
 use Rattle.record.specs.declared.Context.{Context}
-use Rattle.record.specs.declared.MaybeDuration.{MaybeDuration}
-use Rattle.record.specs.declared.MaybeNanoseconds.{MaybeNanoseconds}
 use Rattle.record.specs.declared.Mechanism.{Mechanism}
 use Rattle.record.specs.declared.NewState.{NewState}
 use Rattle.rules.specs.Events.{Event, event, general, stamp, sync_timer, delay_timer, filter_answer, set_state}
+use Rattle.writing.specs.declared.WriteError.{WriteError}
 
 -- a field: a one-byte tag, a two-byte length, the value
 unfoldable pub field_bytes : ℕ → List ℕ → List ℕ
@@ -44,13 +42,13 @@ state_bytes NewState.Faulty = 3 ∷ []
 state_bytes (NewState.Slave master) = 4 ∷ identity_bytes master
 
 -- fields that may be left out
-unfoldable pub mean_bytes : MaybeDuration → List ℕ
-mean_bytes MaybeDuration.None = []
-mean_bytes (MaybeDuration.Some d) = field_bytes 5 (duration_bytes d)
+unfoldable pub mean_bytes : Option Duration → List ℕ
+mean_bytes None = []
+mean_bytes (Some d) = field_bytes 5 (duration_bytes d)
 
-unfoldable pub next_bytes : MaybeNanoseconds → List ℕ
-next_bytes MaybeNanoseconds.None = []
-next_bytes (MaybeNanoseconds.Some ns) = field_bytes 6 (spell 8 ns)
+unfoldable pub next_bytes : Option ℕ → List ℕ
+next_bytes None = []
+next_bytes (Some ns) = field_bytes 6 (spell 8 ns)
 
 abbrev pub mechanism_byte : Mechanism → ℕ
 mechanism_byte Mechanism.EndToEnd = 0
@@ -85,16 +83,16 @@ recordable (set_state s) = true
 -- ---- appending
 
 -- what is answered for w, and a buffer of so many bytes
-unfoldable pub appended : Bool → List ℕ → ℕ → Written
-appended fits w room = cond fits (cond (leb (length w) room) (Written.Length (length w)) Written.Short) Written.Unfit
+unfoldable pub appended : Bool → List ℕ → ℕ → Result ℕ WriteError
+appended fits w room = cond fits (cond (leb (length w) room) (Ok (length w)) (Err WriteError.Short)) (Err WriteError.Unfit)
 
 -- w at the front, and behind it what lay there; or all as it was
 unfoldable pub left_after : Bool → List ℕ → List ℕ → List ℕ
 left_after fits w d = cond (fits && leb (length w) (length d)) (w ++ drop (length w) d) d
 
 -- the promise: d is the buffer, r the answer and d' what is left in the buffer
-abbrev pub Appends : Bool → List ℕ → List ℕ → Written → List ℕ → Type 0
+abbrev pub Appends : Bool → List ℕ → List ℕ → Result ℕ WriteError → List ℕ → Type 0
 Appends fits w d r d' = (r ≡ appended fits w (length d)) × (d' ≡ left_after fits w d)
 
-abbrev pub Records : Event → List ℕ → Written → List ℕ → Type 0
+abbrev pub Records : Event → List ℕ → Result ℕ WriteError → List ℕ → Type 0
 Records e d r d' = Appends (recordable e) (event_bytes e) d r d'

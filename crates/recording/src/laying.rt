@@ -1,198 +1,192 @@
-// The parts of a field, laid one behind the other. Each function answers the place behind what it laid.
-ghost use Rattle.std.specs.Prelude.{◌≡◌, [], ◌∷◌, ◌++◌, length};
+// The parts of a field, laid one behind the other on a page.
+#![tactic(auto, using(text::specs::PageLaws::typed_append, crate::proofs::LayingLaws::typed_field, crate::proofs::RecordingLaws::length_words))]
+
+ghost use Rattle.std.specs.Prelude.{◌≡◌, [], ◌∷◌, ◌++◌, ◌<◌, ◌≤◌, ◌^◌, length};
 ghost use Rattle.octets.specs.Bytes.{spell};
-ghost use Rattle.text.specs.Page.{Wrote};
+ghost use Rattle.text.specs.Lent.{Writes};
 ghost use Rattle.recording.specs.Recording.{field_bytes, time_bytes, duration_bytes, identity_bytes, context_bytes, state_bytes, mean_bytes, next_bytes, mechanism_byte};
 
-use record::{Config, Context, MaybeDuration, MaybeNanoseconds, Mechanism, NewState};
+use record::{Config, Context, NewState};
+use text::Page;
 use time::{Duration, Time};
 use wire::Identity;
 
-// A number in so many bytes, big-endian. What does not fit the width is cut at the high end.
-pub(crate) fn spell(out: &mut [u8], at: usize, width: usize, v: u64) -> usize
-    ensures { Wrote out.old at (spell width v) out.new result }
+// Two bytes.
+#[tactic(auto, using(crate::proofs::LayingLaws::typed_short))]
+fn short(page: &mut Page, v: u16)
+    ensures { Writes page.old (spell 2 v) page.new }
 {
-    if width == 0 {
-        return at;
-    }
-    let next = spell(out, at, width - 1, v / 256);
-    text::put(out, next, (v % 256) as u8)
+    page.copy(&v.to_be_bytes());
+}
+
+// Eight bytes.
+#[tactic(auto, using(crate::proofs::LayingLaws::typed_long))]
+pub(crate) fn long(page: &mut Page, v: u64)
+    ensures { Writes page.old (spell 8 v) page.new }
+{
+    page.copy(&v.to_be_bytes());
 }
 
 // Tag and length.
-pub(crate) fn heading(out: &mut [u8], at: usize, tag: u8, n: usize) -> usize
-    ensures { Wrote out.old at (tag ∷ spell 2 n) out.new result }
+pub(crate) fn heading(page: &mut Page, tag: u8, n: usize)
+    requires { n < 2 ^ 16 }
+    ensures { Writes page.old (tag ∷ spell 2 n) page.new }
 {
-    let next = text::put(out, at, tag);
-    spell(out, next, 2, n as u64)
+    page.put(tag);
+    // a field has fewer than 65536 bytes, which is proved: no From narrows
+    short(page, n as u16);
 }
 
-fn words(out: &mut [u8], at: usize, hi: u64, lo: u64) -> usize
-    ensures { Wrote out.old at (spell 8 hi ++ spell 8 lo) out.new result }
+fn identity(page: &mut Page, who: Identity)
+    ensures { Writes page.old (identity_bytes who) page.new }
 {
-    let next = spell(out, at, 8, hi);
-    spell(out, next, 8, lo)
-}
-
-fn identity(out: &mut [u8], at: usize, who: Identity) -> usize
-    ensures { Wrote out.old at (identity_bytes who) out.new result }
-{
-    let clock = who.clock;
-    let port = who.port as u64;
-    let next = spell(out, at, 8, clock);
-    spell(out, next, 2, port)
+    long(page, who.clock);
+    short(page, who.port);
 }
 
 // Field 1.
-pub(crate) fn time(out: &mut [u8], at: usize, t: Time) -> usize
-    ensures { Wrote out.old at (field_bytes 1 (time_bytes t)) out.new result }
+pub(crate) fn time(page: &mut Page, t: Time)
+    ensures { Writes page.old (field_bytes 1 (time_bytes t)) page.new }
 {
-    let next = heading(out, at, 1, 16);
-    words(out, next, t.hi, t.lo)
+    heading(page, 1, 16);
+    long(page, t.hi);
+    long(page, t.lo);
 }
 
 // Field 2.
-pub(crate) fn message(out: &mut [u8], at: usize, message: &[u8]) -> usize
-    ensures { Wrote out.old at (field_bytes 2 message.now) out.new result }
+pub(crate) fn message(page: &mut Page, message: &[u8])
+    requires { length message.now < 2 ^ 16 }
+    ensures { Writes page.old (field_bytes 2 message.now) page.new }
 {
-    let next = heading(out, at, 2, message.len());
-    text::copy(out, next, message)
+    heading(page, 2, message.len());
+    page.copy(message);
 }
 
-fn kind_and_id(out: &mut [u8], at: usize, kind: u8, id: u16) -> usize
-    ensures { Wrote out.old at (kind ∷ spell 2 id) out.new result }
-{
-    let next = text::put(out, at, kind);
-    spell(out, next, 2, id as u64)
-}
-
+#[tactic(auto, using(crate::proofs::LayingLaws::length_spelled, crate::proofs::LayingLaws::length_asked), unfolding(crate::specs::Recording::context_bytes))]
+// Four sizes, one for each type: each is promised by the bytes of its own type.
 pub(crate) fn context_size(context: Context) -> usize
-    ensures { result ≡ length (context_bytes context) }
+    ensures size { result ≡ length (context_bytes context) }
+    ensures small { result ≤ 13 }
 {
     match context {
-        Context::Sync { id: _ } => 3,
-        Context::DelayReq { id: _ } => 3,
-        Context::PDelayReq { id: _ } => 3,
-        Context::PDelayResp {
-            id: _,
-            requester: _,
-        } => 13,
+        Context::Sync { .. } | Context::DelayReq { .. } | Context::PDelayReq { .. } => 3,
+        Context::PDelayResp { .. } => 13,
     }
 }
 
-pub(crate) fn context(out: &mut [u8], at: usize, context: Context) -> usize
-    ensures { Wrote out.old at (context_bytes context) out.new result }
+#[tactic(auto, using(text::specs::PageLaws::typed_append), unfolding(crate::specs::Recording::context_bytes))]
+pub(crate) fn context(page: &mut Page, context: Context)
+    ensures { Writes page.old (context_bytes context) page.new }
 {
     match context {
-        Context::Sync { id } => kind_and_id(out, at, 0, id),
-        Context::DelayReq { id } => kind_and_id(out, at, 1, id),
-        Context::PDelayReq { id } => kind_and_id(out, at, 2, id),
+        Context::Sync { id } => {
+            page.put(0);
+            short(page, id);
+        }
+        Context::DelayReq { id } => {
+            page.put(1);
+            short(page, id);
+        }
+        Context::PDelayReq { id } => {
+            page.put(2);
+            short(page, id);
+        }
         Context::PDelayResp { id, requester } => {
-            let next = kind_and_id(out, at, 3, id);
-            identity(out, next, requester)
+            page.put(3);
+            short(page, id);
+            identity(page, requester);
         }
     }
 }
 
+#[tactic(auto, using(crate::proofs::LayingLaws::length_spelled, crate::proofs::RecordingLaws::length_identity), unfolding(crate::specs::Recording::state_bytes))]
 pub(crate) fn state_size(state: NewState) -> usize
-    ensures { result ≡ length (state_bytes state) }
+    ensures size { result ≡ length (state_bytes state) }
+    ensures small { result ≤ 11 }
 {
     match state {
-        NewState::Listening => 1,
-        NewState::Master => 1,
-        NewState::Passive => 1,
-        NewState::Faulty => 1,
+        NewState::Listening | NewState::Master | NewState::Passive | NewState::Faulty => 1,
         NewState::Slave(_) => 11,
     }
 }
 
-pub(crate) fn state(out: &mut [u8], at: usize, state: NewState) -> usize
-    ensures { Wrote out.old at (state_bytes state) out.new result }
+#[tactic(auto, using(text::specs::PageLaws::typed_append), unfolding(crate::specs::Recording::state_bytes))]
+pub(crate) fn state(page: &mut Page, state: NewState)
+    ensures { Writes page.old (state_bytes state) page.new }
 {
     match state {
-        NewState::Listening => text::put(out, at, 0),
-        NewState::Master => text::put(out, at, 1),
-        NewState::Passive => text::put(out, at, 2),
-        NewState::Faulty => text::put(out, at, 3),
+        NewState::Listening => page.put(0),
+        NewState::Master => page.put(1),
+        NewState::Passive => page.put(2),
+        NewState::Faulty => page.put(3),
         NewState::Slave(master) => {
-            let next = text::put(out, at, 4);
-            identity(out, next, master)
+            page.put(4);
+            identity(page, master);
         }
     }
 }
 
-pub(crate) fn mean_size(mean: MaybeDuration) -> usize
-    ensures { result ≡ length (mean_bytes mean) }
+#[tactic(auto, using(crate::proofs::RecordingLaws::length_mean), unfolding(crate::specs::Recording::mean_bytes))]
+pub(crate) fn mean_size(mean: Option<Duration>) -> usize
+    ensures size { result ≡ length (mean_bytes mean) }
+    ensures small { result ≤ 19 }
 {
     match mean {
-        MaybeDuration::None => 0,
-        MaybeDuration::Some(_) => 19,
+        None => 0,
+        Some(_) => 19,
     }
 }
 
-pub(crate) fn mean(out: &mut [u8], at: usize, mean: MaybeDuration) -> usize
-    ensures { Wrote out.old at (mean_bytes mean) out.new result }
+#[tactic(auto, using(text::specs::PageLaws::typed_append, crate::proofs::LayingLaws::typed_field, crate::proofs::RecordingLaws::length_words), unfolding(crate::specs::Recording::mean_bytes))]
+pub(crate) fn mean(page: &mut Page, mean: Option<Duration>)
+    ensures { Writes page.old (mean_bytes mean) page.new }
 {
     match mean {
-        MaybeDuration::None => at,
-        MaybeDuration::Some(d) => {
-            let next = heading(out, at, 5, 16);
-            words(out, next, d.hi, d.lo)
+        None => {}
+        Some(d) => {
+            heading(page, 5, 16);
+            long(page, d.hi);
+            long(page, d.lo);
         }
     }
 }
 
-pub(crate) fn next_size(next: MaybeNanoseconds) -> usize
-    ensures { result ≡ length (next_bytes next) }
+#[tactic(auto, using(crate::proofs::RecordingLaws::length_next), unfolding(crate::specs::Recording::next_bytes))]
+pub(crate) fn next_size(next: Option<u64>) -> usize
+    ensures size { result ≡ length (next_bytes next) }
+    ensures small { result ≤ 11 }
 {
     match next {
-        MaybeNanoseconds::None => 0,
-        MaybeNanoseconds::Some(_) => 11,
+        None => 0,
+        Some(_) => 11,
     }
 }
 
-pub(crate) fn next(out: &mut [u8], at: usize, next: MaybeNanoseconds) -> usize
-    ensures { Wrote out.old at (next_bytes next) out.new result }
+#[tactic(auto, using(text::specs::PageLaws::typed_append, crate::proofs::LayingLaws::typed_field, crate::proofs::LayingLaws::length_spelled), unfolding(crate::specs::Recording::next_bytes))]
+pub(crate) fn next(page: &mut Page, next: Option<u64>)
+    ensures { Writes page.old (next_bytes next) page.new }
 {
     match next {
-        MaybeNanoseconds::None => at,
-        MaybeNanoseconds::Some(ns) => {
-            let place = heading(out, at, 6, 8);
-            spell(out, place, 8, ns)
+        None => {}
+        Some(ns) => {
+            heading(page, 6, 8);
+            long(page, ns);
         }
     }
-}
-
-fn mechanism_byte(mechanism: Mechanism) -> u8
-    ensures { result ≡ mechanism_byte mechanism }
-{
-    match mechanism {
-        Mechanism::EndToEnd => 0,
-        Mechanism::Peer => 1,
-    }
-}
-
-// Domain, minor, mechanism and the two intervals.
-fn choices(out: &mut [u8], at: usize, config: Config) -> usize
-    ensures { Wrote out.old at (config.domain ∷ config.minor ∷ mechanism_byte config.mechanism ∷ config.delay_interval ∷ config.sync_interval ∷ []) out.new result }
-{
-    let mechanism = config.mechanism;
-    let byte = mechanism_byte(mechanism);
-    let a = text::put(out, at, config.domain);
-    let b = text::put(out, a, config.minor);
-    let c = text::put(out, b, byte);
-    let d = text::put(out, c, config.delay_interval);
-    text::put(out, d, config.sync_interval)
 }
 
 // The configuration's value.
-pub(crate) fn config(out: &mut [u8], at: usize, config: Config) -> usize
-    ensures { Wrote out.old at (identity_bytes config.identity ++ (spell 2 config.sdo ++ (config.domain ∷ config.minor ∷ mechanism_byte config.mechanism ∷ config.delay_interval ∷ config.sync_interval ∷ duration_bytes config.asymmetry))) out.new result }
+pub(crate) fn config(page: &mut Page, config: Config)
+    ensures { Writes page.old (identity_bytes config.identity ++ (spell 2 config.sdo ++ (config.domain ∷ config.minor ∷ mechanism_byte config.mechanism ∷ config.delay_interval ∷ config.sync_interval ∷ duration_bytes config.asymmetry))) page.new }
 {
-    let who = config.identity;
-    let asymmetry = config.asymmetry;
-    let a = identity(out, at, who);
-    let b = spell(out, a, 2, config.sdo as u64);
-    let c = choices(out, b, config);
-    words(out, c, asymmetry.hi, asymmetry.lo)
+    identity(page, config.identity);
+    short(page, config.sdo);
+    page.put(config.domain);
+    page.put(config.minor);
+    // the mechanism's number, as the enum has it
+    page.put(config.mechanism as u8);
+    page.put(config.delay_interval);
+    page.put(config.sync_interval);
+    long(page, config.asymmetry.hi);
+    long(page, config.asymmetry.lo);
 }

@@ -1,10 +1,8 @@
 -- A session comes to an end: each turn reads a field, wants a piece, or is done.
-use Rattle.std.specs.Prelude.{◌≡◌, ℕ, suc, ◌-◌, ◌<◌, ◌≤◌, Bool, true, false, cond, List, [], ◌∷◌, ◌++◌, length, take, drop}
+use Rattle.std.specs.Prelude.{◌≡◌, ℕ, suc, ◌-◌, ◌<◌, ◌≤◌, Bool, true, false, cond, List, [], ◌∷◌, ◌++◌, length, drop, Option, Some}
 use Rattle.std.proofs.Math.Path.{refl}
 use Rattle.std.proofs.Common.{◌∙◌, ap, arith, length-drop, length-append}
-use Rattle.std.proofs.Math.Option.{Option, some}
 use Rattle.octets.proofs.BytesLaws.{apart}
-use Rattle.streaming.specs.Log.{told}
 use Rattle.streaming.specs.Streaming.{joined}
 use Rattle.streaming.proofs.StreamingLaws.{more_open}
 use Rattle.lines.specs.declared.Style.{Style}
@@ -12,7 +10,7 @@ use Rattle.lines.specs.Lines.{line_of}
 use Rattle.replaying.specs.declared.State.{State}
 use Rattle.replaying.specs.declared.Stop.{Stop}
 use Rattle.replaying.specs.Replay.{answer_to}
-use Rattle.replaying.specs.Turns.{line_room, Run, stopped, after, run_over}
+use Rattle.replaying.specs.Turns.{line_room, due, port_in, Run, stopped, after, run_over}
 use Rattle.replaying.specs.Sessions.{start_of, ahead, goes_on, session, Roomy, turns_for, WritesAll}
 use Rattle.replaying.specs.RunLaws.{Steps}
 use Rattle.replaying.proofs.RunLaws.{every}
@@ -45,9 +43,9 @@ module _ (style : Style) (last : Bool) where
         full = λ q room s h. record { within = omega arith; reads = λ _ g. absurd (omega (arith, h, g)); wants = λ e. absurd (apart (cc e)) };
         config = λ q room s c e fits x t. further s room room 36 [] x (omega arith) fits t;
         event = λ q room s e k f three fits x t.
-            let w : List ℕ = line_of style q.number (answer_to q.port (told (take k s) e)) in
+            let w : List ℕ = line_of style q.number (answer_to (port_in q) e) in
             further s room (room - length w) k w x three fits t;
-        more = λ q room s e. record { within = omega arith; reads = λ p. absurd (apart (cc p)); wants = λ _. more_open q.first s last e };
+        more = λ q room s e. record { within = omega arith; reads = λ p. absurd (apart (cc p)); wants = λ _. more_open (due q) s last e };
         good_end = λ q room s e. halted s room _ q;
         bad_end = λ q room s e. halted s room _ q;
       }
@@ -57,16 +55,16 @@ module _ (style : Style) (last : Bool) where
 
 -- ---- enough of them
 
-ahead_is : (b : List ℕ) (o : Option (List ℕ)) → ((v : List ℕ) × (o ≡ some v)) → (w : List ℕ) × (ahead b o ≡ some w)
+ahead_is : (b : List ℕ) (o : Option (List ℕ)) → ((v : List ℕ) × (o ≡ Some v)) → (w : List ℕ) × (ahead b o ≡ Some w)
 ahead_is b o (v, e) = (b ++ v, ap (ahead b) e)
 
 module _ (style : Style) where
   abbrev Ends : List ℕ → Type 0
   Ends rooms =
-      (q : State) (u : List ℕ) (last : Bool) (ps : List (List ℕ)) → (last ≡ true → ps ≡ []) → turns_for u last ps < length rooms → (w : List ℕ) × (session style rooms q u last ps ≡ some w)
+      (q : State) (u : List ℕ) (last : Bool) (ps : List (List ℕ)) → (last ≡ true → ps ≡ []) → turns_for u last ps < length rooms → (w : List ℕ) × (session style rooms q u last ps ≡ Some w)
 
   next_turn : (rooms : List ℕ) (room : ℕ) → line_room ≤ room → Ends rooms → (q : State) (u : List ℕ) (last : Bool) (ps : List (List ℕ)) → (last ≡ true → ps ≡ []) → turns_for u last ps < suc (length rooms)
-      → (why : Stop) → (run_over style q u last room).stop ≡ why → (w : List ℕ) × (goes_on why (run_over style q u last room) u last ps (session style rooms) ≡ some w)
+      → (why : Stop) → (run_over style q u last room).stop ≡ why → (w : List ℕ) × (goes_on why (run_over style q u last room) u last ps (session style rooms) ≡ Some w)
   next_turn rooms room h ih q u last ps closed m Stop.Full e =
       let x : Run = run_over style q u last room in
       let t = turns style last q room u in
@@ -97,4 +95,4 @@ module _ (style : Style) where
   pub session_ends : (rooms : List ℕ) (ps : List (List ℕ)) → WritesAll style rooms ps
   session_ends rooms ps h m =
       let (w, e) = ends_by rooms h start_of [] false ps (λ l. absurd (apart (cc l))) m in
-      e ∙ ap some (session_writes style rooms ps w e)
+      e ∙ ap Some (session_writes style rooms ps w e)

@@ -1,16 +1,16 @@
 -- Turns put together: what a session has written when it ends is what the whole log writes.
-use Rattle.std.specs.Prelude.{◌≡◌, ℕ, ◌+◌, ◌%◌, ◌^◌, ◌≤◌, Bool, true, false, List, [], ◌∷◌, ◌++◌, length, take, drop, ◌≢◌}
+use Rattle.std.specs.Prelude.{◌≡◌, ℕ, ◌+◌, ◌%◌, ◌^◌, ◌≤◌, Bool, true, false, List, [], ◌∷◌, ◌++◌, length, drop, ◌≢◌, Option, Some, None}
 use Rattle.std.proofs.Math.Path.{refl, ap}
 use Rattle.std.proofs.Common.{sym, ◌∙◌, subst, append_assoc, append-nil, arith, add-zero, add_assoc, length-drop, drop-drop}
-use Rattle.std.proofs.Math.Option.{Option, none, some}
 use Rattle.std.proofs.Math.Nat.{mod-add-mod}
-use Rattle.std.proofs.lemmas.List.{drop-append-le, take-append-le}
+use Rattle.std.proofs.lemmas.List.{drop-append-le}
 use Rattle.record.specs.declared.Config.{Config}
 use Rattle.record.specs.declared.Port.{Port}
+use Rattle.record.specs.Record.{port_of}
 use Rattle.octets.proofs.BytesLaws.{apart}
-use Rattle.event_log.specs.declared.Next.{Next}
+use Rattle.event_log.specs.Told.{Next}
 use Rattle.event_log.specs.Fields.{front_of}
-use Rattle.streaming.specs.Log.{next, scan, told}
+use Rattle.streaming.specs.Log.{next, scan}
 use Rattle.streaming.specs.Streaming.{joined}
 use Rattle.streaming.specs.FrontLaws.{Steady, steady}
 use Rattle.streaming.proofs.StreamingLaws.{scan_at}
@@ -19,7 +19,7 @@ use Rattle.lines.specs.Lines.{line_of, bad_line, last_line}
 use Rattle.replaying.specs.declared.State.{State}
 use Rattle.replaying.specs.declared.Stop.{Stop}
 use Rattle.replaying.specs.Replay.{answer_to}
-use Rattle.replaying.specs.Turns.{opened, moved, Run, stopped, after, run_over}
+use Rattle.replaying.specs.Turns.{due, port_in, opened, moved, Run, stopped, after, run_over}
 use Rattle.replaying.specs.Sessions.{start_of, ahead, goes_on, session, WritesTheLines}
 use Rattle.replaying.specs.WritesLaws.{writes}
 use Rattle.replaying.proofs.WritesLaws.{writes_lines}
@@ -62,15 +62,15 @@ module _ (style : Style) (t : List ℕ) (last : Bool) (closed : last ≡ true �
           steady_is f s x m (subst (λ (y : Next). Steady y f s t true) g (steady f s t true))
 
   -- what is written from a state on, for a log that goes on with s and then t
-  abbrev to_come : State → ℕ → ℕ → List ℕ → List ℕ
-  to_come q n at s = writes style q.port n (scan true q.first at (s ++ t))
+  abbrev pub to_come : State → ℕ → ℕ → List ℕ → List ℕ
+  to_come q n at s = writes style (port_in q) n (scan true (due q) at (s ++ t))
 
   -- after a run x over s
-  abbrev Continues : State → ℕ → ℕ → List ℕ → Run → Type 0
+  abbrev pub Continues : State → ℕ → ℕ → List ℕ → Run → Type 0
   Continues q n at s x =
       (m : ℕ) × (Tracks x.state m (at + x.read)) × (x.read ≤ length s) × (to_come q n at s ≡ x.bytes ++ to_come x.state m (at + x.read) (drop x.read s))
 
-  abbrev By : Stop → State → ℕ → ℕ → List ℕ → Run → Type 0
+  abbrev pub By : Stop → State → ℕ → ℕ → List ℕ → Run → Type 0
   By Stop.Full q n at s x = Continues q n at s x
   By Stop.More q n at s x = Continues q n at s x
   By Stop.Done q n at s x = to_come q n at s ≡ x.bytes
@@ -103,35 +103,34 @@ module _ (style : Style) (t : List ℕ) (last : Bool) (closed : last ≡ true �
 
   -- ---- the whole log, told by the front of the window
 
-  starts_with : (q : State) (n at : ℕ) (s : List ℕ) (c : Config) → front_of q.first s last ≡ Next.Config c → 36 ≤ length s → to_come q n at s ≡ to_come (opened q c 36) n (at + 36) (drop 36 s)
+  starts_with : (q : State) (n at : ℕ) (s : List ℕ) (c : Config) → front_of (due q) s last ≡ Next.Config c → 36 ≤ length s → to_come q n at s ≡ to_come (opened q c 36) n (at + 36) (drop 36 s)
   unfolding writes
   starts_with q n at s c e h =
-      ap (writes style q.port n) (scan_at true q.first at (s ++ t) (Next.Config c) (front_stays q.first s (Next.Config c) e (λ p. apart (cc p))))
-      ∙ ap (λ (u : List ℕ). writes style (opened q c 36).port n (scan true false (at + 36) u)) (drop-append-le 36 s t h)
+      ap (writes style (port_in q) n) (scan_at true (due q) at (s ++ t) (Next.Config c) (front_stays (due q) s (Next.Config c) e (λ p. apart (cc p))))
+      ∙ ap (λ (u : List ℕ). writes style (port_of c) n (scan true false (at + 36) u)) (drop-append-le 36 s t h)
 
-  goes_on_with : (q : State) (n at : ℕ) (s : List ℕ) (e : _) (k : ℕ) → Tracks q n at → front_of q.first s last ≡ Next.Event e k → k ≤ length s
-      → to_come q n at s ≡ line_of style q.number (answer_to q.port (told (take k s) e)) ++ to_come (moved q (answer_to q.port (told (take k s) e)).port k) (n + 1) (at + k) (drop k s)
+  goes_on_with : (q : State) (n at : ℕ) (s : List ℕ) (e : _) (k : ℕ) → Tracks q n at → front_of (due q) s last ≡ Next.Event e k → k ≤ length s
+      → to_come q n at s ≡ line_of style q.number (answer_to (port_in q) e) ++ to_come (moved q (answer_to (port_in q) e).port k) (n + 1) (at + k) (drop k s)
   unfolding writes
   goes_on_with q n at s e k g x h =
-      ap (writes style q.port n) (scan_at true q.first at (s ++ t) (Next.Event e k) (front_stays q.first s (Next.Event e k) x (λ p. apart (cc p))))
-      ∙ ap (λ (u : List ℕ). writes style q.port n (next (told u e) k (scan true false (at + k) (drop k (s ++ t))))) (take-append-le k s t h)
-      ∙ ap (λ (u : List ℕ). writes style q.port n (next (told (take k s) e) k (scan true false (at + k) u))) (drop-append-le k s t h)
-      ∙ ap (λ (i : ℕ). line_of style i (answer_to q.port (told (take k s) e)) ++ writes style (answer_to q.port (told (take k s) e)).port (n + 1) (scan true false (at + k) (drop k s ++ t))) (sym g.number)
+      ap (writes style (port_in q) n) (scan_at true (due q) at (s ++ t) (Next.Event e k) (front_stays (due q) s (Next.Event e k) x (λ p. apart (cc p))))
+      ∙ ap (λ (u : List ℕ). writes style (port_in q) n (next e k (scan true false (at + k) u))) (drop-append-le k s t h)
+      ∙ ap (λ (i : ℕ). line_of style i (answer_to (port_in q) e) ++ writes style (answer_to (port_in q) e).port (n + 1) (scan true false (at + k) (drop k s ++ t))) (sym g.number)
 
-  good_end : (q : State) (n at : ℕ) (s : List ℕ) → front_of q.first s last ≡ Next.End → to_come q n at s ≡ last_line style q.port
+  good_end : (q : State) (n at : ℕ) (s : List ℕ) → front_of (due q) s last ≡ Next.End → to_come q n at s ≡ last_line style (port_in q)
   unfolding writes
   good_end q n at s e =
-      ap (writes style q.port n) (scan_at true q.first at (s ++ t) Next.End (front_stays q.first s Next.End e (λ p. apart (cc p))))
+      ap (writes style (port_in q) n) (scan_at true (due q) at (s ++ t) Next.End (front_stays (due q) s Next.End e (λ p. apart (cc p))))
 
-  bad_end : (q : State) (n at : ℕ) (s : List ℕ) → Tracks q n at → front_of q.first s last ≡ Next.Bad → to_come q n at s ≡ bad_line q.offset
+  bad_end : (q : State) (n at : ℕ) (s : List ℕ) → Tracks q n at → front_of (due q) s last ≡ Next.Bad → to_come q n at s ≡ bad_line q.offset
   unfolding writes
   bad_end q n at s g e =
-      ap (writes style q.port n) (scan_at true q.first at (s ++ t) Next.Bad (front_stays q.first s Next.Bad e (λ p. apart (cc p))))
+      ap (writes style (port_in q) n) (scan_at true (due q) at (s ++ t) Next.Bad (front_stays (due q) s Next.Bad e (λ p. apart (cc p))))
       ∙ ap bad_line (sym g.offset)
 
   -- ---- a run over the window: it goes on, or has written all
 
-  abbrev Good : State → ℕ → ℕ → List ℕ → Run → Type 0
+  abbrev pub Good : State → ℕ → ℕ → List ℕ → Run → Type 0
   Good q n at s x = By x.stop q n at s x
 
   -- of every run over the window, from whatever counts its state stands for
@@ -145,30 +144,30 @@ module _ (style : Style) (t : List ℕ) (last : Bool) (closed : last ≡ true �
         config = λ q room s c e fits x go n at g.
             before q (opened q c 36) n n at 36 s [] x fits (starts_with q n at s c e fits) (go n (at + 36) (tracks_opened q n at 36 c g));
         event = λ q room s e k f three fits x go n at g.
-            before q (moved q (answer_to q.port (told (take k s) e)).port k) n (n + 1) at k s (line_of style q.number (answer_to q.port (told (take k s) e))) x fits (goes_on_with q n at s e k g f fits)
-            (go (n + 1) (at + k) (tracks_moved q n at k (answer_to q.port (told (take k s) e)).port g));
+            before q (moved q (answer_to (port_in q) e).port k) n (n + 1) at k s (line_of style q.number (answer_to (port_in q) e)) x fits (goes_on_with q n at s e k g f fits)
+            (go (n + 1) (at + k) (tracks_moved q n at k (answer_to (port_in q) e).port g));
         more = λ q room s e n at g. still q n at s Stop.More g;
         good_end = λ q room s e n at g. good_end q n at s e;
         bad_end = λ q room s e n at g. bad_end q n at s g e;
       }
 
-  window : (q : State) (n at room : ℕ) (s : List ℕ) → Tracks q n at → Good q n at s (run_over style q s last room)
+  pub window : (q : State) (n at room : ℕ) (s : List ℕ) → Tracks q n at → Good q n at s (run_over style q s last room)
   window q n at room s g = every style last Told told_steps q room q.offset s n at g
 
 -- ---- a session
 
-ahead-some : (b : List ℕ) (o : Option (List ℕ)) (w : List ℕ) → ahead b o ≡ some w → (v : List ℕ) × (o ≡ some v) × (w ≡ b ++ v)
-ahead-some b none w e = absurd (apart (cc e))
-ahead-some b (some v) w e = let f : b ++ v ≡ w = cc e in (v, refl, sym f)
+ahead-some : (b : List ℕ) (o : Option (List ℕ)) (w : List ℕ) → ahead b o ≡ Some w → (v : List ℕ) × (o ≡ Some v) × (w ≡ b ++ v)
+ahead-some b None w e = absurd (apart (cc e))
+ahead-some b (Some v) w e = let f : b ++ v ≡ w = cc e in (v, refl, sym f)
 
 module _ (style : Style) where
   -- a session that ends has written what was to come
   abbrev Writes : List ℕ → Type 0
   Writes rooms =
-      (q : State) (u : List ℕ) (last : Bool) (ps : List (List ℕ)) (w : List ℕ) (n at : ℕ) → (last ≡ true → joined ps ≡ []) → Tracks q n at → session style rooms q u last ps ≡ some w → w ≡ writes style q.port n (scan true q.first at (u ++ joined ps))
+      (q : State) (u : List ℕ) (last : Bool) (ps : List (List ℕ)) (w : List ℕ) (n at : ℕ) → (last ≡ true → joined ps ≡ []) → Tracks q n at → session style rooms q u last ps ≡ Some w → w ≡ writes style (port_in q) n (scan true (due q) at (u ++ joined ps))
 
   turn_writes : (rooms : List ℕ) (room : ℕ) → Writes rooms → (q : State) (u : List ℕ) (last : Bool) (ps : List (List ℕ)) (closed : last ≡ true → joined ps ≡ []) (w : List ℕ) (n at : ℕ)
-      → (why : Stop) → By style (joined ps) last closed why q n at u (run_over style q u last room) → goes_on why (run_over style q u last room) u last ps (session style rooms) ≡ some w → w ≡ writes style q.port n (scan true q.first at (u ++ joined ps))
+      → (why : Stop) → By style (joined ps) last closed why q n at u (run_over style q u last room) → goes_on why (run_over style q u last room) u last ps (session style rooms) ≡ Some w → w ≡ writes style (port_in q) n (scan true (due q) at (u ++ joined ps))
   turn_writes rooms room ih q u last ps closed w n at Stop.Full (m, g, r, y) e =
       let x : Run = run_over style q u last room in
       let (v, o, f) = ahead-some x.bytes (session style rooms x.state (drop x.read u) last ps) w e in
@@ -178,7 +177,7 @@ module _ (style : Style) where
       let (v, o, f) = ahead-some x.bytes (session style rooms x.state (drop x.read u ++ p) false ps) w e in
       f
       ∙ ap (λ (z : List ℕ). x.bytes ++ z) (ih x.state (drop x.read u ++ p) false ps v m (at + x.read) (λ l. absurd (apart (cc l))) g o)
-      ∙ ap (λ (z : List ℕ). x.bytes ++ writes style x.state.port m (scan true x.state.first (at + x.read) z)) (append_assoc (drop x.read u) p (joined ps))
+      ∙ ap (λ (z : List ℕ). x.bytes ++ writes style (port_in x.state) m (scan true (due x.state) (at + x.read) z)) (append_assoc (drop x.read u) p (joined ps))
       ∙ sym y
   turn_writes rooms room ih q u last [] closed w n at Stop.More (m, g, r, y) e =
       let x : Run = run_over style q u last room in
@@ -197,4 +196,4 @@ module _ (style : Style) where
   pub session_writes : (rooms : List ℕ) (ps : List (List ℕ)) (w : List ℕ) → WritesTheLines style rooms ps w
   unfolding start_of
   session_writes rooms ps w e =
-      session_by rooms start_of [] false ps w 1 0 (λ l. absurd (apart (cc l))) (record { number = refl; offset = refl }) e ∙ writes_lines style start_of.port (joined ps)
+      session_by rooms start_of [] false ps w 1 0 (λ l. absurd (apart (cc l))) (record { number = refl; offset = refl }) e ∙ writes_lines style (port_in start_of) (joined ps)

@@ -4,7 +4,7 @@ use Rattle.std.proofs.Math.Path.{refl, sym, ap, subst}
 use Rattle.std.proofs.Common.{◌∙◌, append_assoc, arith, length-drop}
 use Rattle.record.specs.declared.Port.{Port}
 use Rattle.record.specs.Record.{port_of}
-use Rattle.event_log.specs.declared.Next.{Next}
+use Rattle.event_log.specs.Told.{Next}
 use Rattle.event_log.specs.Fields.{front_of}
 use Rattle.streaming.specs.Log.{Fields, starts, next, good, bad, rest, scan, onward, gathered, read_log}
 use Rattle.octets.proofs.BytesLaws.{apart}

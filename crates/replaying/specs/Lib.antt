@@ -8,3 +8,4 @@ pub mod TurnLaws
 pub mod RunLaws
 pub mod WritesLaws
 pub mod SessionLaws
+pub mod Owed

@@ -1,12 +1,12 @@
 -- One field of a window: what the function that reads it promises, and the laws by which it keeps the promise.
-use Rattle.std.specs.Prelude.{◌≡◌, ℕ, ◌+◌, ◌-◌, ◌<◌, ◌≤◌, Bool, false, List, [], length, take, drop, refl}
+use Rattle.std.specs.Prelude.{◌≡◌, ℕ, ◌+◌, ◌-◌, ◌<◌, ◌≤◌, Bool, true, false, List, [], length, take, drop, refl, Option, Some, None, IsSome, is_some, is_none, not}
 use Rattle.std.proofs.Common.{sym, ◌∙◌, subst, le-ltb, arith, add_assoc, length-drop, take_all, drop-drop, length-take-le}
 use Rattle.std.proofs.Math.Path.{ap}
 use Rattle.std.proofs.Math.Nat.{sub-zero}
 use Rattle.std.proofs.Math.Seq.{take_at}
 use Rattle.record.specs.declared.Config.{Config}
 use Rattle.record.specs.declared.Port.{Port}
-use Rattle.rules.specs.Events.{Event, Result, buffer_after}
+use Rattle.rules.specs.Events.{Event, Answered, buffer_after}
 use Rattle.rules.proofs.ActionLaws.{actions_orderly}
 use Rattle.rules.specs.Step.{step}
 use Rattle.port.specs.Entries.{answer_for, Answers}
@@ -14,11 +14,10 @@ use Rattle.port.specs.ToldLaws.{TellsResult, answer_tells}
 use Rattle.rules.proofs.BufferLaws.{sent_fits, buffer_length}
 use Rattle.record.specs.declared.Answer.{Answer}
 use Rattle.octets.proofs.BytesLaws.{apart}
-use Rattle.event_log.specs.declared.Logged.{Logged}
-use Rattle.event_log.specs.declared.Next.{Next}
+use Rattle.event_log.specs.Told.{Next}
 use Rattle.event_log.specs.Fields.{front_of}
-use Rattle.streaming.specs.Log.{Fields, starts, next, good, bad, rest, scan, told, onward}
-use Rattle.streaming.specs.FrontLaws.{Placed}
+use Rattle.streaming.specs.Log.{Fields, starts, next, good, bad, rest, scan, onward}
+use Rattle.streaming.specs.FrontLaws.{Placed, Front, front}
 use Rattle.streaming.proofs.StreamingLaws.{scan_at, front_fits, front_placed, front_config_fits, more_small}
 use Rattle.lines.specs.declared.Style.{Style}
 use Rattle.lines.specs.Lines.{line_of, line_for, bad_line, last_line}
@@ -27,9 +26,9 @@ use Rattle.text.specs.Page.{Wrote}
 use Rattle.text.specs.PageLaws.{wrote_nothing, wrote_as}
 use Rattle.replaying.specs.declared.State.{State}
 use Rattle.replaying.specs.declared.Stop.{Stop}
-use Rattle.replaying.specs.declared.one.Went.{Went}
+use Rattle.replaying.specs.declared.one.Turn.{Turn}
 use Rattle.replaying.specs.Replay.{answer_to}
-use Rattle.replaying.specs.Turns.{line_room, opened, moved, stopped, after, run_of}
+use Rattle.replaying.specs.Turns.{line_room, due, port_in, opened, moved, stopped, after, run_of}
 
 -- ---- a run's next field, where a line has room
 
@@ -38,11 +37,11 @@ module _ (style : Style) (q : State) (room : ℕ) (h : line_room ≤ room) where
   unfolding run_of
   run_starts c n l = simp (le-ltb room 1024 h)
 
-  pub run_next : (e : Event) (n : ℕ) (l : Fields) → run_of style q room (next e n l) ≡ after (line_of style q.number (answer_to q.port e)) n (run_of style (moved q (answer_to q.port e).port n) (room - length (line_of style q.number (answer_to q.port e))) l)
+  pub run_next : (e : Event) (n : ℕ) (l : Fields) → run_of style q room (next e n l) ≡ after (line_of style q.number (answer_to (port_in q) e)) n (run_of style (moved q (answer_to (port_in q) e).port n) (room - length (line_of style q.number (answer_to (port_in q) e))) l)
   unfolding run_of
   run_next e n l = simp (le-ltb room 1024 h)
 
-  pub run_good : run_of style q room good ≡ stopped (last_line style q.port) q Stop.Done
+  pub run_good : run_of style q room good ≡ stopped (last_line style (port_in q)) q Stop.Done
   unfolding run_of
   run_good = simp (le-ltb room 1024 h)
 
@@ -59,7 +58,7 @@ module _ (style : Style) (q : State) (room : ℕ) (h : line_room ≤ room) where
 -- w is written for a field of n bytes at place i, and the run goes on behind it
 pub record Passes (style : Style) (q : State) (s : List ℕ) (i : ℕ) (last : Bool) (d : List ℕ) (to : ℕ) (d' : List ℕ) (p : State) (j k : ℕ) (n : ℕ) (w : List ℕ) : Type 0 where
   pub run : (at room : ℕ) → line_room ≤ room
-      → run_of style q room (scan last q.first (at + i) (drop i s)) ≡ after w n (run_of style p (room - length w) (scan last p.first (at + j) (drop j s)))
+      → run_of style q room (scan last (due q) (at + i) (drop i s)) ≡ after w n (run_of style p (room - length w) (scan last (due p) (at + j) (drop j s)))
   pub wrote : Wrote d to w d' k
   pub short : length w ≤ line_room
   pub place : j ≡ i + n
@@ -68,56 +67,108 @@ pub record Passes (style : Style) (q : State) (s : List ℕ) (i : ℕ) (last : B
 
 -- w is written, and nothing comes behind it
 pub record Halts (style : Style) (q : State) (s : List ℕ) (i : ℕ) (last : Bool) (d : List ℕ) (to : ℕ) (d' : List ℕ) (why : Stop) (k : ℕ) (w : List ℕ) : Type 0 where
-  pub run : (at room : ℕ) → line_room ≤ room → run_of style q room (scan last q.first (at + i) (drop i s)) ≡ stopped w q why
+  pub run : (at room : ℕ) → line_room ≤ room → run_of style q room (scan last (due q) (at + i) (drop i s)) ≡ stopped w q why
   pub wrote : Wrote d to w d' k
   pub short : length w ≤ line_room
   pub small : why ≡ Stop.More → length s - i < 1049
 
-abbrev pub One : Style → State → List ℕ → ℕ → Bool → List ℕ → ℕ → List ℕ → Went → Type 0
-One style q s i last d to d' (Went.On p j k) =
+-- with the state p, the place j in the window and the place k in the buffer behind it; or why nothing comes behind it
+abbrev pub Field : Style → State → List ℕ → ℕ → Bool → List ℕ → ℕ → List ℕ → State → ℕ → ℕ → Option Stop → Type 0
+Field style q s i last d to d' p j k None =
     (n : ℕ) × (w : List ℕ) × Passes style q s i last d to d' p j k n w
-One style q s i last d to d' (Went.Stops why k) =
-    (w : List ℕ) × Halts style q s i last d to d' why k w
+Field style q s i last d to d' p j k (Some why) =
+    (p ≡ q) × (j ≡ i) × ((w : List ℕ) × Halts style q s i last d to d' why k w)
+
+-- a turn t into the buffer d is t' with d' behind one field
+pub record One (t : Turn) (d : List ℕ) (t' : Turn) (d' : List ℕ) (r : Option Stop) : Type 0 where
+  pub style : t'.style ≡ t.style
+  pub window : t'.s.now ≡ t.s.now
+  pub last : t'.last ≡ t.last
+  pub field : Field t.style t.state t.s.now t.read t.last d t.wrote d' t'.state t'.read t'.wrote r
 
 -- ---- the line of an answer is that of `step`'s result, and has room
 
-told_line : (style : Style) (n : ℕ) (r : Result) (a : Answer) (sent : List ℕ) → TellsResult r a → sent ≡ r.sent → line_for style n a sent ≡ line_of style n r
+told_line : (style : Style) (n : ℕ) (r : Answered) (a : Answer) (sent : List ℕ) → TellsResult r a → sent ≡ r.sent → line_for style n a sent ≡ line_of style n r
 told_line style n r a sent t e = simp (t.outcome, t.measurement, t.actions, t.reset, e)
 
-line_fits : (style : Style) (n : ℕ) (q : State) (e : Event) → length (line_of style n (answer_to q.port e)) ≤ line_room
+line_fits : (style : Style) (n : ℕ) (q : State) (e : Event) → length (line_of style n (answer_to (port_in q) e)) ≤ line_room
 line_fits style n q e =
-    omega (arith, line_short style n (answer_to q.port e).outcome (answer_to q.port e).measurement (answer_to q.port e).sent (answer_to q.port e).actions (answer_to q.port e).reset (actions_orderly q.port 128 e).at_most_two, sent_fits q.port 128 e)
+    omega (arith, line_short style n (answer_to (port_in q) e).outcome (answer_to (port_in q) e).measurement (answer_to (port_in q) e).sent (answer_to (port_in q) e).actions (answer_to (port_in q) e).reset (actions_orderly (port_in q) 128 e).at_most_two, sent_fits (port_in q) 128 e)
 
 -- ---- the function's returns: x is what stands at place i
 
 part_all : (s : List ℕ) (i : ℕ) → take (length s - i) (drop i s) ≡ drop i s
 part_all s i = take_all (length s - i) (drop i s) (omega (arith, length-drop i s))
 
-module _ (style : Style) (q : State) (s : List ℕ) (i : ℕ) (last : Bool) (d : List ℕ) (to : ℕ) (x : Next) (inside : i ≤ length s) (is : x ≡ front_of q.first (take (length s - i) (drop i s)) last) where
-  at_place : front_of q.first (drop i s) last ≡ x
-  at_place = ap (λ (u : List ℕ). front_of q.first u last) (sym (part_all s i)) ∙ sym is
+-- whether there is a port, asked and answered
+due_is : {A : Type 0} (o : Option A) (b : Bool) → is_some o ≡ not b → b ≡ is_none o
+due_is None true e = refl
+due_is None false e = absurd (apart (cc e))
+due_is (Some p) true e = absurd (apart (cc e))
+due_is (Some p) false e = refl
 
-  scanned : (at : ℕ) (y : Next) → x ≡ y → scan last q.first (at + i) (drop i s) ≡ onward y (at + i) q.first (drop i s) (λ n. scan last false (at + i + n) (drop n (drop i s)))
-  scanned at y e = scan_at last q.first (at + i) (drop i s) y (at_place ∙ e)
+there_is : {A : Type 0} (o : Option A) → is_none o ≡ false → IsSome o
+there_is None e = absurd (apart (cc e))
+there_is (Some p) e = refl
+
+module _ (t : Turn) (d : List ℕ) (x : Next) (b : Bool) (asked : is_some t.state.port ≡ not b) (inside : t.read ≤ length t.s.now) (is : x ≡ front_of b (take (length t.s.now - t.read) (drop t.read t.s.now)) t.last) where
+  abbrev style : Style
+  style = t.style
+
+  abbrev q : State
+  q = t.state
+
+  abbrev s : List ℕ
+  s = t.s.now
+
+  abbrev i : ℕ
+  i = t.read
+
+  abbrev last : Bool
+  last = t.last
+
+  abbrev to : ℕ
+  to = t.wrote
+
+  at_place : front_of (due q) (drop i s) last ≡ x
+  at_place =
+      ap (λ (u : List ℕ). front_of (due q) u last) (sym (part_all s i))
+      ∙ sym (is ∙ ap (λ (f : Bool). front_of f (take (length s - i) (drop i s)) last) (due_is q.port b asked))
+
+  known : Front (due q) (drop i s) last x
+  known = subst (Front (due q) (drop i s) last) at_place (front (due q) (drop i s) last)
+
+  -- a port has been made where an event is read, and where a log ends well
+  pub event_ported : (e : Event) (n : ℕ) → x ≡ Next.Event e n → IsSome q.port
+  event_ported e n p = there_is q.port (subst (Front (due q) (drop i s) last) p known).0.0
+
+  pub end_ported : x ≡ Next.End → IsSome q.port
+  end_ported p = there_is q.port (subst (Front (due q) (drop i s) last) p known).0.1
+
+  port_is : (port : Port) → q.port ≡ Some port → port ≡ port_in q
+  port_is port e = sym (ap (λ (o : Option Port). port_in (record { port = o; number = q.number; offset = q.offset })) e)
+
+  scanned : (at : ℕ) (y : Next) → x ≡ y → scan last (due q) (at + i) (drop i s) ≡ onward y (at + i) (due q) (drop i s) (λ n. scan last false (at + i + n) (drop n (drop i s)))
+  scanned at y e = scan_at last (due q) (at + i) (drop i s) y (at_place ∙ e)
 
   -- what lies behind a field of n bytes
   behind : (at n : ℕ) → scan last false (at + i + n) (drop n (drop i s)) ≡ scan last false (at + (i + n)) (drop (i + n) s)
   behind at n =
       ap (λ (u : List ℕ). scan last false (at + i + n) u) (drop-drop n i s) ∙ ap (λ (k : ℕ). scan last false k (drop (i + n) s)) (add_assoc at i n)
 
-  pub event_fits : (e : Logged) (n : ℕ) → x ≡ Next.Event e n → (3 ≤ n) × (n ≤ length s - i)
+  pub event_fits : (e : Event) (n : ℕ) → x ≡ Next.Event e n → (3 ≤ n) × (n ≤ length s - i)
   event_fits e n p =
-      let (a, b) = front_fits q.first (drop i s) last e n (at_place ∙ p) in
+      let (a, b) = front_fits (due q) (drop i s) last e n (at_place ∙ p) in
       (a, omega (arith, b, length-drop i s))
 
-  pub event_placed : (e : Logged) (n : ℕ) → x ≡ Next.Event e n → Placed n e
-  event_placed e n p = front_placed q.first (drop i s) last e n (at_place ∙ p)
+  pub event_placed : (e : Event) (n : ℕ) → x ≡ Next.Event e n → Placed (take n (drop i s)) e
+  event_placed e n p = front_placed (due q) (drop i s) last e n (at_place ∙ p)
 
   pub config_fits : (c : Config) → x ≡ Next.Config c → 36 ≤ length s - i
-  config_fits c p = omega (arith, front_config_fits q.first (drop i s) last c (at_place ∙ p), length-drop i s)
+  config_fits c p = omega (arith, front_config_fits (due q) (drop i s) last c (at_place ∙ p), length-drop i s)
 
-  pub one_config : (c : Config) (p : State) → x ≡ Next.Config c → p ≡ opened q c 36 → One style q s i last d to d (Went.On p (i + 36) to)
-  one_config c p e o = subst (λ (z : State). One style q s i last d to d (Went.On z (i + 36) to)) (sym o) (36, [], passes)
+  pub one_config : (c : Config) (p : State) → x ≡ Next.Config c → p ≡ opened q c 36 → Field style q s i last d to d p (i + 36) to None
+  one_config c p e o = subst (λ (z : State). Field style q s i last d to d z (i + 36) to None) (sym o) (36, [], passes)
     where
       passes : Passes style q s i last d to d (opened q c 36) (i + 36) to 36 []
       passes =
@@ -134,49 +185,49 @@ module _ (style : Style) (q : State) (s : List ℕ) (i : ℕ) (last : Bool) (d :
             within = omega (arith, config_fits c e, inside);
           }
 
-  -- the part that is lent as the event's field
+  -- the bytes of the event's field
   abbrev field_of : ℕ → List ℕ
   field_of n = take n (take (length s - i) (drop i s))
 
-  pub field_length : (e : Logged) (n : ℕ) → x ≡ Next.Event e n → n ≡ length (field_of n)
+  pub field_length : (e : Event) (n : ℕ) → x ≡ Next.Event e n → n ≡ length (field_of n)
   field_length e n p =
       let (_, b) = event_fits e n p in
       sym (length-take-le n (take (length s - i) (drop i s)) (omega (arith, b, ap length (part_all s i), length-drop i s)))
 
-  pub field_placed : (e : Logged) (n : ℕ) → x ≡ Next.Event e n → Placed (length (field_of n)) e
-  field_placed e n p = subst (λ (m : ℕ). Placed m e) (field_length e n p) (event_placed e n p)
+  pub field_placed : (e : Event) (n : ℕ) → x ≡ Next.Event e n → Placed (field_of n) e
+  field_placed e n p = subst (λ (u : List ℕ). Placed (take n u) e) (sym (part_all s i)) (event_placed e n p)
 
   -- l is the packet buffer before, and l' after; the packet is what was answered to be sent
-  module _ (e : Logged) (n : ℕ) (p : x ≡ Next.Event e n) (a : Answer) (l l' : List ℕ) (big : length l ≡ 128) (answers : Answers q.port (told (field_of n) e) l a l') where
-    abbrev result : Result
-    result = answer_to q.port (told (take n (drop i s)) e)
+  module _ (e : Event) (n : ℕ) (p : x ≡ Next.Event e n) (port : Port) (held : q.port ≡ Some port) (a : Answer) (l l' : List ℕ) (big : length l ≡ 128) (answered : Answers port e l a l') where
+    answers : Answers (port_in q) e l a l'
+    answers = subst (λ (z : Port). Answers z e l a l') (port_is port held) answered
 
-    same_event : told (field_of n) e ≡ told (take n (drop i s)) e
-    same_event = ap (λ (u : List ℕ). told (take n u) e) (part_all s i)
+    abbrev result : Answered
+    result = answer_to (port_in q) e
 
-    same_result : step q.port (length l) (told (field_of n) e) ≡ result
-    same_result = ap (λ (k : ℕ). step q.port k (told (field_of n) e)) big ∙ ap (step q.port 128) same_event
+    same_result : step (port_in q) (length l) e ≡ result
+    same_result = ap (λ (k : ℕ). step (port_in q) k e) big
 
     tells : TellsResult result a
     tells =
-        subst (TellsResult result) (sym (answers.0 ∙ ap answer_for same_result)) (answer_tells q.port 128 (told (take n (drop i s)) e))
+        subst (TellsResult result) (sym (answers.0 ∙ ap answer_for same_result)) (answer_tells (port_in q) 128 e)
 
     packet_is : l' ≡ buffer_after result l
-    packet_is = answers.1 ∙ ap (λ (r : Result). buffer_after r l) same_result
+    packet_is = answers.1 ∙ ap (λ (r : Answered). buffer_after r l) same_result
 
     pub packet_fits : a.length ≤ length l'
     packet_fits =
-        let whole : length (buffer_after (step q.port (length l) (told (field_of n) e)) l) ≡ length l = buffer_length q.port (told (field_of n) e) l in
-        omega (arith, tells.length_is, sent_fits q.port 128 (told (take n (drop i s)) e), big, ap length answers.1, whole)
+        let whole : length (buffer_after (step (port_in q) (length l) e) l) ≡ length l = buffer_length (port_in q) e l in
+        omega (arith, tells.length_is, sent_fits (port_in q) 128 e, big, ap length answers.1, whole)
 
     -- the bytes of the packet are what is sent
     sent_is : take a.length l' ≡ result.sent
     unfolding buffer_after
     sent_is = ap (take a.length) packet_is ∙ take_at result.sent (drop (length result.sent) l) a.length (sym tells.length_is)
 
-    pub one_event : (d' : List ℕ) (g : State) (k : ℕ) → Wrote d to (line_for style q.number a (take a.length l')) d' k → g ≡ moved q a.port n → One style q s i last d to d' (Went.On g (i + n) k)
+    pub one_event : (d' : List ℕ) (g : State) (k : ℕ) → Wrote d to (line_for style q.number a (take a.length l')) d' k → g ≡ moved q a.port n → Field style q s i last d to d' g (i + n) k None
     one_event d' g k w o =
-        subst (λ (z : State). One style q s i last d to d' (Went.On z (i + n) k)) (sym (o ∙ ap (λ (r : Port). moved q r n) tells.port))
+        subst (λ (z : State). Field style q s i last d to d' z (i + n) k None) (sym (o ∙ ap (λ (r : Port). moved q r n) tells.port))
         (n, line_of style q.number result, passes)
       where
         passes : Passes style q s i last d to d' (moved q result.port n) (i + n) k n (line_of style q.number result)
@@ -184,44 +235,56 @@ module _ (style : Style) (q : State) (s : List ℕ) (i : ℕ) (last : Bool) (d :
             record {
               run = λ at room h.
                   ap (run_of style q room) (scanned at (Next.Event e n) p)
-                  ∙ run_next style q room h (told (take n (drop i s)) e) n (scan last false (at + i + n) (drop n (drop i s)))
+                  ∙ run_next style q room h e n (scan last false (at + i + n) (drop n (drop i s)))
                   ∙ ap (λ (l : Fields). after (line_of style q.number result) n (run_of style (moved q result.port n) (room - length (line_of style q.number result)) l)) (behind at n);
               wrote = wrote_as (told_line style q.number result a (take a.length l') tells sent_is) w;
-              short = line_fits style q.number q (told (take n (drop i s)) e);
+              short = line_fits style q.number q e;
               place = refl;
               ahead = omega (arith, event_fits e n p);
               within = omega (arith, event_fits e n p, inside);
             }
 
-  pub one_more : x ≡ Next.More → One style q s i last d to d (Went.Stops Stop.More to)
+  pub one_more : x ≡ Next.More → Field style q s i last d to d q i to (Some Stop.More)
   one_more e = (
-    [],
-    record {
-      run = λ at room h. ap (run_of style q room) (scanned at Next.More e) ∙ run_rest style q room h (at + i) q.first (drop i s);
-      wrote = wrote_nothing;
-      short = omega arith;
-      small = λ _. omega (arith, more_small q.first (drop i s) last (at_place ∙ e), length-drop i s);
-    },
+    refl,
+    refl,
+    (
+      [],
+      record {
+        run = λ at room h. ap (run_of style q room) (scanned at Next.More e) ∙ run_rest style q room h (at + i) (due q) (drop i s);
+        wrote = wrote_nothing;
+        short = omega arith;
+        small = λ _. omega (arith, more_small (due q) (drop i s) last (at_place ∙ e), length-drop i s);
+      },
+    ),
   )
 
-  pub one_end : (d' : List ℕ) (k : ℕ) → x ≡ Next.End → Wrote d to (last_line style q.port) d' k → One style q s i last d to d' (Went.Stops Stop.Done k)
-  one_end d' k e w = (
-    last_line style q.port,
-    record {
-      run = λ at room h. ap (run_of style q room) (scanned at Next.End e) ∙ run_good style q room h;
-      wrote = w;
-      short = omega (arith, last_short style q.port);
-      small = λ m. absurd (apart (cc m));
-    },
+  pub one_end : (d' : List ℕ) (k : ℕ) (port : Port) → q.port ≡ Some port → x ≡ Next.End → Wrote d to (last_line style port) d' k → Field style q s i last d to d' q i k (Some Stop.Done)
+  one_end d' k port held e w = (
+    refl,
+    refl,
+    (
+      last_line style (port_in q),
+      record {
+        run = λ at room h. ap (run_of style q room) (scanned at Next.End e) ∙ run_good style q room h;
+        wrote = subst (λ (z : Port). Wrote d to (last_line style z) d' k) (port_is port held) w;
+        short = omega (arith, last_short style (port_in q));
+        small = λ m. absurd (apart (cc m));
+      },
+    ),
   )
 
-  pub one_bad : (d' : List ℕ) (k : ℕ) → x ≡ Next.Bad → Wrote d to (bad_line q.offset) d' k → One style q s i last d to d' (Went.Stops Stop.Done k)
+  pub one_bad : (d' : List ℕ) (k : ℕ) → x ≡ Next.Bad → Wrote d to (bad_line q.offset) d' k → Field style q s i last d to d' q i k (Some Stop.Done)
   one_bad d' k e w = (
-    bad_line q.offset,
-    record {
-      run = λ at room h. ap (run_of style q room) (scanned at Next.Bad e) ∙ run_bad style q room h (at + i);
-      wrote = w;
-      short = omega (arith, bad_short q.offset);
-      small = λ m. absurd (apart (cc m));
-    },
+    refl,
+    refl,
+    (
+      bad_line q.offset,
+      record {
+        run = λ at room h. ap (run_of style q room) (scanned at Next.Bad e) ∙ run_bad style q room h (at + i);
+        wrote = w;
+        short = omega (arith, bad_short q.offset);
+        small = λ m. absurd (apart (cc m));
+      },
+    ),
   )

@@ -1,10 +1,9 @@
 -- Document 01, 'Event log': what a replay answers and writes. The log's events go to a fresh port one after another.
-use Rattle.std.specs.Prelude.{ℕ, ◌+◌, ◌%◌, ◌^◌, List, [], ◌∷◌, ◌++◌}
-use Rattle.std.proofs.Math.Option.{Option, none, some}
+use Rattle.std.specs.Prelude.{ℕ, ◌+◌, ◌%◌, ◌^◌, List, [], ◌∷◌, ◌++◌, Option, Some, None}
 use Rattle.record.specs.declared.Config.{Config}
 use Rattle.record.specs.declared.Port.{Port}
 use Rattle.record.specs.Record.{port_of}
-use Rattle.rules.specs.Events.{Event, Result}
+use Rattle.rules.specs.Events.{Event, Answered}
 use Rattle.rules.specs.Step.{step}
 use Rattle.streaming.specs.Log.{Log, Ending, end, bad_at, read_log}
 use Rattle.lines.specs.declared.Style.{Style}
@@ -14,13 +13,13 @@ use Rattle.lines.specs.Lines.{line_of, bad_line, last_line}
 abbrev pub packet_room : ℕ
 packet_room = 128
 
-abbrev pub answer_to : Port → Event → Result
+abbrev pub answer_to : Port → Event → Answered
 answer_to p e = step p packet_room e
 
 -- ---- answers
 
 -- each event finds the record that the one before it left
-unfoldable pub results_from : Port → List Event → List Result
+unfoldable pub results_from : Port → List Event → List Answered
 results_from p [] = []
 results_from p (e ∷ es) = answer_to p e ∷ results_from (answer_to p e).port es
 
@@ -30,16 +29,16 @@ record_after p [] = p
 record_after p (e ∷ es) = record_after (answer_to p e).port es
 
 -- from a fresh port (`port_of`): Listening, nothing stored, first ids
-unfoldable pub replay_of : Log → List Result
+unfoldable pub replay_of : Log → List Answered
 replay_of l = from l.configuration
   where
-    from : Option Config → List Result
-    from none = []
-    from (some c) = results_from (port_of c) l.events
+    from : Option Config → List Answered
+    from None = []
+    from (Some c) = results_from (port_of c) l.events
 
 -- ---- lines: numbers and offsets count in 64 bits
 
-unfoldable pub numbered : Style → ℕ → List Result → List ℕ
+unfoldable pub numbered : Style → ℕ → List Answered → List ℕ
 numbered style n [] = []
 numbered style n (r ∷ rs) = line_of style (n % 2 ^ 64) r ++ numbered style (n + 1) rs
 
@@ -54,8 +53,8 @@ without_port end = []
 without_port (bad_at offset) = bad_line (offset % 2 ^ 64)
 
 unfoldable pub lines_for : Style → Option Config → List Event → Ending → List ℕ
-lines_for style none es x = without_port x
-lines_for style (some c) es x =
+lines_for style None es x = without_port x
+lines_for style (Some c) es x =
     numbered style 1 (results_from (port_of c) es) ++ last_of style (record_after (port_of c) es) x
 
 unfoldable pub lines_of : Style → Log → List ℕ

@@ -1,9 +1,5 @@
 -- A session: turn after turn over windows of any size, until nothing more is to come. Whatever the pieces in which the log comes, and whatever room the buffer has in each turn, what is written is what `Replay` says.
-use Rattle.std.specs.Prelude.{◌≡◌, ℕ, ◌+◌, ◌<◌, ◌≤◌, Bool, true, false, cond, List, [], ◌∷◌, ◌++◌, length, drop}
-use Rattle.std.proofs.Math.Option.{Option, none, some}
-use Rattle.record.specs.declared.Config.{Config}
-use Rattle.record.specs.declared.Mechanism.{Mechanism}
-use Rattle.record.specs.Record.{port_of}
+use Rattle.std.specs.Prelude.{◌≡◌, ℕ, ◌+◌, ◌<◌, ◌≤◌, Bool, true, false, cond, List, [], ◌∷◌, ◌++◌, length, drop, None, Option, Some}
 use Rattle.streaming.specs.Streaming.{joined}
 use Rattle.lines.specs.declared.Style.{Style}
 use Rattle.replaying.specs.declared.State.{State}
@@ -11,45 +7,31 @@ use Rattle.replaying.specs.declared.Stop.{Stop}
 use Rattle.replaying.specs.Replay.{replay_lines}
 use Rattle.replaying.specs.Turns.{line_room, Run, run_over}
 
--- the port before the configuration has been read is never asked
-abbrev blank : Config
-blank =
-    record {
-      identity = record { clock = 0; port = 0 };
-      sdo = 0;
-      domain = 0;
-      minor = 0;
-      mechanism = Mechanism.EndToEnd;
-      delay_interval = 0;
-      sync_interval = 0;
-      asymmetry = record { hi = 0; lo = 0 };
-    }
-
 -- the configuration is due, events are numbered from 1 and offsets counted from 0
 unfoldable pub start_of : State
-start_of = record { first = true; port = port_of blank; number = 1; offset = 0 }
+start_of = record { port = None; number = 1; offset = 0 }
 
 -- what was written, and behind it what is still written
 abbrev pub ahead : List ℕ → Option (List ℕ) → Option (List ℕ)
-ahead w none = none
-ahead w (some v) = some (w ++ v)
+ahead w None = None
+ahead w (Some v) = Some (w ++ v)
 
 -- after a turn over the window u. Where it wants more, the next piece is read behind what was left unread; where no piece is left, nothing follows
 abbrev pub goes_on : Stop → Run → List ℕ → Bool → List (List ℕ) → (State → List ℕ → Bool → List (List ℕ) → Option (List ℕ)) → Option (List ℕ)
 goes_on Stop.Full x u last ps go = ahead x.bytes (go x.state (drop x.read u) last ps)
 goes_on Stop.More x u last (p ∷ ps) go = ahead x.bytes (go x.state (drop x.read u ++ p) false ps)
 goes_on Stop.More x u last [] go = ahead x.bytes (go x.state (drop x.read u) true [])
-goes_on Stop.Done x u last ps go = some x.bytes
+goes_on Stop.Done x u last ps go = Some x.bytes
 
 -- The window holds u, the pieces ps are still to come, and `last` says that none is. Each turn has so much room as the list says; if that runs out before the log does, nothing is said
 unfoldable pub session : Style → List ℕ → State → List ℕ → Bool → List (List ℕ) → Option (List ℕ)
-session style [] q u last ps = none
+session style [] q u last ps = None
 session style (room ∷ rooms) q u last ps =
     goes_on (run_over style q u last room).stop (run_over style q u last room) u last ps (session style rooms)
 
 -- the theorem `session_writes` of `SessionLaws`: a session that comes to an end has written the lines of the whole log
 abbrev pub WritesTheLines : Style → List ℕ → List (List ℕ) → List ℕ → Type 0
-WritesTheLines style rooms ps w = session style rooms start_of [] false ps ≡ some w → w ≡ replay_lines style (joined ps)
+WritesTheLines style rooms ps w = session style rooms start_of [] false ps ≡ Some w → w ≡ replay_lines style (joined ps)
 
 -- and `session_ends` of `EndsLaws`: it does come to an end, if each turn has room for a line and there are more turns than bytes and pieces to come
 abbrev pub Roomy : List ℕ → Type 0
@@ -61,4 +43,4 @@ turns_for u last ps = length u + (length (joined ps) + (length ps + cond {A = �
 
 abbrev pub WritesAll : Style → List ℕ → List (List ℕ) → Type 0
 WritesAll style rooms ps =
-    Roomy rooms → turns_for [] false ps < length rooms → session style rooms start_of [] false ps ≡ some (replay_lines style (joined ps))
+    Roomy rooms → turns_for [] false ps < length rooms → session style rooms start_of [] false ps ≡ Some (replay_lines style (joined ps))

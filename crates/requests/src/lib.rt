@@ -7,32 +7,27 @@ ghost use Rattle.rules.specs.Rules.{delay_sent, peer_sent, request, delay_timer_
 ghost use Rattle.handling.specs.Handling.{handed_on, handled_of};
 
 use handling::{Handled, sender_of};
-use measurement::{MaybeSlave, complete};
 use record::sequence::id_after;
 use record::{
-    Action, Context, Exchange, Ids, MaybeIdentity, MaybeTime, Mechanism, Outcome, PeerState, Port,
-    SlaveState,
+    Action, Context, Exchange, Mechanism, Outcome, PeerState, Port, PortState, SlaveState,
 };
-use timers::{TimerAnswer, delay_timer};
+use timers::delay_timer;
 
 // A DelayReq goes out behind its timer, and takes the place of the one before.
 fn delay_req_sent(port: Port, s: SlaveState, ns: u64) -> Handled
     ensures { result ≡ handed_on (delay_sent port s ns) }
 {
-    let ids = port.ids;
+    let mut ids = port.ids;
     let id = ids.delay;
     let sender = sender_of(port.config);
     let message = sender.delay_req(id);
     let begun = Exchange::Measuring {
         id,
-        send: MaybeTime::None,
-        receive: MaybeTime::None,
+        send: None,
+        receive: None,
     };
-    let taken = Ids {
-        delay: id_after(id),
-        ..ids
-    };
-    let next = port.with_slave(s.with_delay(begun)).with_ids(taken);
+    ids.delay = id_after(id);
+    let next = port.with_slave(s.with_delay(begun)).with_ids(ids);
     let context = Context::DelayReq { id };
     let timer = Action::ResetDelayRequestTimer { ns };
     let packet = Action::SendEvent {
@@ -46,23 +41,20 @@ fn delay_req_sent(port: Port, s: SlaveState, ns: u64) -> Handled
 fn pdelay_req_sent(port: Port, ns: u64) -> Handled
     ensures { result ≡ handed_on (peer_sent port ns) }
 {
-    let ids = port.ids;
+    let mut ids = port.ids;
     let id = ids.peer;
     let sender = sender_of(port.config);
     let message = sender.pdelay_req(id);
     let begun = PeerState::Measuring {
         id,
-        responder: MaybeIdentity::None,
-        request_send: MaybeTime::None,
-        request_receive: MaybeTime::None,
-        response_send: MaybeTime::None,
-        response_receive: MaybeTime::None,
+        responder: None,
+        request_send: None,
+        request_receive: None,
+        response_send: None,
+        response_receive: None,
     };
-    let taken = Ids {
-        peer: id_after(id),
-        ..ids
-    };
-    let next = port.with_peer(begun).with_ids(taken);
+    ids.peer = id_after(id);
+    let next = port.with_peer(begun).with_ids(ids);
     let context = Context::PDelayReq { id };
     let timer = Action::ResetDelayRequestTimer { ns };
     let packet = Action::SendEvent {
@@ -73,44 +65,29 @@ fn pdelay_req_sent(port: Port, ns: u64) -> Handled
 }
 
 // End to end, a Slave asks its master.
-fn send_e2e_delay_request(port: Port, draw: u64) -> Handled
-    ensures { result ≡ handled_of port (request port draw Mechanism.EndToEnd) }
+fn send_e2e_delay_request(port: Port, draw: u64) -> Result<Handled, Outcome>
+    ensures { result ≡ handled_of (request port draw Mechanism.EndToEnd) }
 {
-    let config = port.config;
-    let state = port.state;
-    let slave = complete::as_slave(state);
-    match slave {
-        MaybeSlave::None => Handled::nothing(port),
-        MaybeSlave::Some(s) => {
-            let timer = delay_timer(config.delay_interval, draw);
-            match timer {
-                TimerAnswer::Value(ns) => delay_req_sent(port, s, ns),
-                TimerAnswer::Interval => Handled::refused(Outcome::Unfit, port),
-                TimerAnswer::Draw => Handled::refused(Outcome::Limits, port),
-            }
-        }
-    }
+    let PortState::Slave(s) = port.state else {
+        return Ok(Handled::nothing(port));
+    };
+    let ns = delay_timer(port.config.delay_interval, draw)?;
+    Ok(delay_req_sent(port, s, ns))
 }
 
 // Peer to peer, every state asks its neighbour.
-fn send_p2p_delay_request(port: Port, draw: u64) -> Handled
-    ensures { result ≡ handled_of port (request port draw Mechanism.Peer) }
+fn send_p2p_delay_request(port: Port, draw: u64) -> Result<Handled, Outcome>
+    ensures { result ≡ handled_of (request port draw Mechanism.Peer) }
 {
-    let config = port.config;
-    let timer = delay_timer(config.delay_interval, draw);
-    match timer {
-        TimerAnswer::Value(ns) => pdelay_req_sent(port, ns),
-        TimerAnswer::Interval => Handled::refused(Outcome::Unfit, port),
-        TimerAnswer::Draw => Handled::refused(Outcome::Limits, port),
-    }
+    let ns = delay_timer(port.config.delay_interval, draw)?;
+    Ok(pdelay_req_sent(port, ns))
 }
 
-pub fn send_delay_request(port: Port, draw: u64) -> Handled
-    ensures { result ≡ handled_of port (delay_timer_ends port draw) }
+#[tactic(auto, unfolding(rules::specs::Rules::delay_timer_ends))]
+pub fn send_delay_request(port: Port, draw: u64) -> Result<Handled, Outcome>
+    ensures { result ≡ handled_of (delay_timer_ends port draw) }
 {
-    let config = port.config;
-    let mechanism = config.mechanism;
-    match mechanism {
+    match port.config.mechanism {
         Mechanism::EndToEnd => send_e2e_delay_request(port, draw),
         Mechanism::Peer => send_p2p_delay_request(port, draw),
     }

@@ -1,14 +1,13 @@
 -- Actions, for every event and whatever is answered: how many, in which order, and that a packet goes out exactly when something is sent.
-use Rattle.std.specs.Prelude.{◌≡◌, refl, Bool, true, false, cond, List, [], ◌∷◌, ℕ, length, eqb}
+use Rattle.std.specs.Prelude.{◌≡◌, refl, Bool, true, false, cond, List, [], ◌∷◌, ℕ, length, eqb, Option, Some, None, Ok}
 use Rattle.std.proofs.Common.{sym, ◌∙◌}
 use Rattle.std.proofs.Math.Path.{ap}
-use Rattle.std.proofs.Math.Option.{none}
 use Rattle.std.proofs.Math.Dec.{lit≤}
 use Rattle.wire.specs.Layout.{message_bytes, row, type_of}
 use Rattle.wire.proofs.LayoutLaws.{length_message}
 use Rattle.sent.specs.Messages.{header_for, answer_stamp, follow_stamp, sync_of, follow_up_of, delay_req_of, delay_resp_of, p_delay_req_of, p_delay_resp_of, p_delay_resp_follow_up_of}
 use Rattle.sent.proofs.SentLaws.{carrying_is}
-use Rattle.rules.specs.Names.{Time, Header, Identity, Body, Message, MessageAnswer, Sender, Port, Context, Action, PortState, Outcome, MaybeNanoseconds, MaybeMeasurement}
+use Rattle.rules.specs.Names.{Time, Header, Identity, Body, Message, Sender, Port, Context, Action, PortState, Outcome, Measurement}
 use Rattle.record.specs.Record.{is_faulty, with_sync, with_delay, with_state, with_slave, with_peer}
 use Rattle.rules.specs.Worked.{worked}
 use Rattle.rules.specs.Events.{Event, Done, answered, refusal, sending, timed}
@@ -56,16 +55,16 @@ module _ (p : Port) where
   unsent o = record { at_most_two = lit≤ tt; has_timers_first = refl; none_empty = refl; packet_when_sent = refl; sizes = refl }
 
   -- nothing is to be done, nothing is sent
-  still : (q : Port) (m : MaybeMeasurement) (reset : Bool) → Ordered (record { port = q; measurement = m; message = none; actions = []; reset = reset })
+  still : (q : Port) (m : Option Measurement) (reset : Bool) → Ordered (record { port = q; measurement = m; message = None; actions = []; reset = reset })
   still q m reset =
       record { at_most_two = lit≤ tt; has_timers_first = refl; none_empty = refl; packet_when_sent = refl; sizes = refl }
 
   settled : (q : Port) → All Ordered (settle q)
   settled q =
-      all_settle Ordered Silent tt q (still q MaybeMeasurement.None false)
-      (λ s raw m. still (sync_out q s raw) (MaybeMeasurement.Some m) false)
-      (λ s m. still (delay_out q s) (MaybeMeasurement.Some m) false)
-      (λ id i m. still (peer_out q id i) (MaybeMeasurement.Some m) (is_faulty q.state))
+      all_settle Ordered Silent tt q (still q None false)
+      (λ s raw m. still (sync_out q s raw) (Some m) false)
+      (λ s m. still (delay_out q s) (Some m) false)
+      (λ id i m. still (peer_out q id i) (Some m) (is_faulty q.state))
 
   general_sent : (q : Port) (m : Message) (link_local : Bool) → Ordered (sending q [] m (Action.SendGeneral link_local))
   general_sent q m link_local =
@@ -75,9 +74,9 @@ module _ (p : Port) where
   event_sent q m c link_local =
       record { at_most_two = lit≤ tt; has_timers_first = refl; none_empty = refl; packet_when_sent = one_packet m; sizes = size m }
 
-  filter_timer : (q : Port) (next : MaybeNanoseconds) → Ordered (timed q (update_given next))
-  filter_timer q MaybeNanoseconds.None = still q MaybeMeasurement.None false
-  filter_timer q (MaybeNanoseconds.Some ns) =
+  filter_timer : (q : Port) (next : Option ℕ) → Ordered (timed q (update_given next))
+  filter_timer q None = still q None false
+  filter_timer q (Some ns) =
       record { at_most_two = lit≤ tt; has_timers_first = refl; none_empty = refl; packet_when_sent = refl; sizes = refl }
 
   each : Every Ordered Silent p
@@ -86,8 +85,8 @@ module _ (p : Port) where
       record {
         heard = record {
           rows = silent;
-          idle = still p MaybeMeasurement.None false;
-          faulty = still (with_state p PortState.Faulty) MaybeMeasurement.None true;
+          idle = still p None false;
+          faulty = still (with_state p PortState.Faulty) None true;
           new_sync = λ s x e. settled (with_slave p (with_sync s x));
           new_delay = λ s x e. settled (with_slave p (with_delay s x));
           new_peer = λ x. settled (with_peer p x);
@@ -100,7 +99,7 @@ module _ (p : Port) where
         at_delay_sent = λ s ns. record { at_most_two = lit≤ tt; has_timers_first = refl; none_empty = refl; packet_when_sent = one_packet _; sizes = size _ };
         at_peer_sent = λ ns. record { at_most_two = lit≤ tt; has_timers_first = refl; none_empty = refl; packet_when_sent = one_packet _; sizes = size _ };
         filter = λ u. filter_timer (mean_given p u.mean_delay) u.next_update;
-        set = λ new. still (with_state p (state_of new)) MaybeMeasurement.None _;
+        set = λ new. still (with_state p (state_of new)) None _;
       }
 
 pub actions_orderly : (p : Port) (room : ℕ) (e : Event) → Orderly (step p room e)
@@ -110,28 +109,28 @@ actions_orderly p room e = step_has p room e Orderly (unsent p) (λ f l. every_r
 
 -- what each message that carries a stamp says
 module _ (s : Sender) (t : Time) (m : Message) where
-  delay_resp_says : (h : Header) (interval : ℕ) → delay_resp_of s h interval t ≡ MessageAnswer.Value m → Action.SendGeneral false ≡ said_of m
+  delay_resp_says : (h : Header) (interval : ℕ) → delay_resp_of s h interval t ≡ Ok m → Action.SendGeneral false ≡ said_of m
   unfolding delay_resp_of header_for
   delay_resp_says h interval e = ap said_of (carrying_is (answer_stamp h.correction t) _ m e).made
 
-  pdelay_resp_says : (h : Header) → p_delay_resp_of s h t ≡ MessageAnswer.Value m → Action.SendEvent (Context.PDelayResp h.id h.source) true ≡ said_of m
+  pdelay_resp_says : (h : Header) → p_delay_resp_of s h t ≡ Ok m → Action.SendEvent (Context.PDelayResp h.id h.source) true ≡ said_of m
   unfolding p_delay_resp_of header_for
   pdelay_resp_says h e = ap said_of (carrying_is (answer_stamp h.correction t) _ m e).made
 
-  follow_up_says : (id interval : ℕ) → follow_up_of s id interval t ≡ MessageAnswer.Value m → Action.SendGeneral false ≡ said_of m
+  follow_up_says : (id interval : ℕ) → follow_up_of s id interval t ≡ Ok m → Action.SendGeneral false ≡ said_of m
   unfolding follow_up_of header_for
   follow_up_says id interval e = ap said_of (carrying_is (follow_stamp t) _ m e).made
 
-  pdelay_resp_follow_up_says : (id : ℕ) (requester : Identity) → p_delay_resp_follow_up_of s id requester t ≡ MessageAnswer.Value m → Action.SendGeneral true ≡ said_of m
+  pdelay_resp_follow_up_says : (id : ℕ) (requester : Identity) → p_delay_resp_follow_up_of s id requester t ≡ Ok m → Action.SendGeneral true ≡ said_of m
   unfolding p_delay_resp_follow_up_of header_for
   pdelay_resp_follow_up_says id requester e = ap said_of (carrying_is (follow_stamp t) _ m e).made
 
 said_settled : (q : Port) → All Said (settle q)
 said_settled q = all_settle Said Silent tt q refl (λ s raw m. refl) (λ s m. refl) (λ id i m. refl)
 
-no_packet : (next : MaybeNanoseconds) → packets_in (update_given next) ≡ []
-no_packet MaybeNanoseconds.None = refl
-no_packet (MaybeNanoseconds.Some ns) = refl
+no_packet : (next : Option ℕ) → packets_in (update_given next) ≡ []
+no_packet None = refl
+no_packet (Some ns) = refl
 
 alone : (a b : Action) → a ≡ b → ◌≡◌ {A = List Action} (a ∷ []) (b ∷ [])
 alone a b e = ap (λ (x : Action). x ∷ []) e

@@ -1,7 +1,7 @@
 -- A rule beside the numbers that 01 has worked out for it: it refuses with 7 exactly where one of them leaves its range. One law for each kind of number; a rule is their chain.
-use Rattle.std.specs.Prelude.{◌≡◌, refl, Bool, true, false, cond, not, ◌||◌, List, [], ◌∷◌, ℤ, ◌-ℤ◌}
+use Rattle.std.specs.Prelude.{◌≡◌, refl, Bool, true, false, cond, not, ◌||◌, List, [], ◌∷◌, ℤ, ◌-ℤ◌, Option, Some, None, Result, Ok, Err}
 use Rattle.std.proofs.Common.{sym, ◌∙◌, ap, subst}
-use Rattle.rules.specs.Names.{Time, Duration, TimeAnswer, DurationAnswer, MaybeDuration}
+use Rattle.rules.specs.Names.{Time, Duration, TimeError}
 use Rattle.time.specs.Units.{time_of, in_time, duration, duration_of, in_duration, half, half_of}
 use Rattle.time.specs.Laws.{IsTime, time_is, time_out_is, IsDuration, duration_is, duration_out_is, duration_back, half_is}
 use Rattle.rules.specs.Worked.{Worked, worked, refused, ◌then◌, a_time, a_duration, less_duration}
@@ -37,11 +37,11 @@ failed b c e = simp e
 -- ---- a duration
 
 module _ (z : ℤ) (ns : List Number) (Says : Done → Type 0) (k : Duration → Worked Done) where
-  answered_duration : (a : DurationAnswer) → duration_of z ≡ a → ((d : Duration) → IsDuration z d → Agrees ns Says (k d)) → Agrees ((durations ∋ z) ∷ ns) Says (a_duration a then k)
-  answered_duration (DurationAnswer.Value d) e next =
+  answered_duration : (a : Result Duration TimeError) → duration_of z ≡ a → ((d : Duration) → IsDuration z d → Agrees ns Says (k d)) → Agrees ((durations ∋ z) ∷ ns) Says (a_duration a then k)
+  answered_duration (Ok d) e next =
       let i : IsDuration z d = duration_is z d e in
       agrees_same ns ((durations ∋ z) ∷ ns) Says (k d) (passed (in_duration z) (outside ns) i.within) (next d i)
-  answered_duration DurationAnswer.Out e next = (refl, failed (in_duration z) (outside ns) (duration_out_is z e))
+  answered_duration (Err TimeError.OutOfRange) e next = (refl, failed (in_duration z) (outside ns) (duration_out_is z e))
 
   pub agrees_duration : (y : ℤ) → y ≡ z → ((d : Duration) → IsDuration z d → Agrees ns Says (k d)) → Agrees ((durations ∋ z) ∷ ns) Says (a_duration (duration_of y) then k)
   agrees_duration y e next =
@@ -50,11 +50,11 @@ module _ (z : ℤ) (ns : List Number) (Says : Done → Type 0) (k : Duration →
 -- ---- a time
 
 module _ (z : ℤ) (ns : List Number) (Says : Done → Type 0) (k : Time → Worked Done) where
-  answered_time : (a : TimeAnswer) → time_of z ≡ a → ((t : Time) → IsTime z t → Agrees ns Says (k t)) → Agrees ((times ∋ z) ∷ ns) Says (a_time a then k)
-  answered_time (TimeAnswer.Value t) e next =
+  answered_time : (a : Result Time TimeError) → time_of z ≡ a → ((t : Time) → IsTime z t → Agrees ns Says (k t)) → Agrees ((times ∋ z) ∷ ns) Says (a_time a then k)
+  answered_time (Ok t) e next =
       let i : IsTime z t = time_is z t e in
       agrees_same ns ((times ∋ z) ∷ ns) Says (k t) (passed (in_time z) (outside ns) i.within) (next t i)
-  answered_time TimeAnswer.Out e next = (refl, failed (in_time z) (outside ns) (time_out_is z e))
+  answered_time (Err TimeError.OutOfRange) e next = (refl, failed (in_time z) (outside ns) (time_out_is z e))
 
   pub agrees_time : ((t : Time) → IsTime z t → Agrees ns Says (k t)) → Agrees ((times ∋ z) ∷ ns) Says (a_time (time_of z) then k)
   agrees_time next = answered_time (time_of z) refl next
@@ -70,18 +70,18 @@ pub half_means : (z : ℤ) (d : Duration) → IsDuration z d → duration (half_
 half_means z d i =
     (duration_is (half (duration d)) (half_of d) (half_is (duration d) d (duration_back d i.hi i.lo))).value ∙ ap half i.value
 
-pub agrees_mean : (m : MaybeDuration) (raw : Duration) (z : ℤ) → duration raw ≡ z → (Says : Done → Type 0) (k : MaybeDuration → Worked Done) → ((o : MaybeDuration) → GivenBy m (λ mean. z -ℤ mean) o → Agrees [] Says (k o)) → Agrees (if_there m (λ mean. z -ℤ mean)) Says (less_mean raw m then k)
+pub agrees_mean : (m : Option Duration) (raw : Duration) (z : ℤ) → duration raw ≡ z → (Says : Done → Type 0) (k : Option Duration → Worked Done) → ((o : Option Duration) → GivenBy m (λ mean. z -ℤ mean) o → Agrees [] Says (k o)) → Agrees (if_there m (λ mean. z -ℤ mean)) Says (less_mean raw m then k)
 unfolding less_duration
-agrees_mean MaybeDuration.None raw z e Says k next = next MaybeDuration.None tt
-agrees_mean (MaybeDuration.Some m) raw z e Says k next =
-    subst (Agrees ((durations ∋ z -ℤ duration m) ∷ []) Says) (sym (then_then (less_duration raw m) (λ o. worked (MaybeDuration.Some o)) k))
-    (agrees_duration (z -ℤ duration m) [] Says (λ d. k (MaybeDuration.Some d)) (duration raw -ℤ duration m) (ap (λ (x : ℤ). x -ℤ duration m) e)
-    (λ d i. next (MaybeDuration.Some d) i.value))
+agrees_mean None raw z e Says k next = next None tt
+agrees_mean (Some m) raw z e Says k next =
+    subst (Agrees ((durations ∋ z -ℤ duration m) ∷ []) Says) (sym (then_then (less_duration raw m) (λ o. worked (Some o)) k))
+    (agrees_duration (z -ℤ duration m) [] Says (λ d. k (Some d)) (duration raw -ℤ duration m) (ap (λ (x : ℤ). x -ℤ duration m) e)
+    (λ d i. next (Some d) i.value))
 
-pub agrees_half : (m : MaybeDuration) (raw : Duration) (z : ℤ) → duration raw ≡ z → (Says : Done → Type 0) (k : MaybeDuration → Worked Done) → ((o : MaybeDuration) → GivenBy m (λ last. half (last -ℤ z)) o → Agrees [] Says (k o)) → Agrees (if_there m (λ last. last -ℤ z)) Says (half_below m raw then k)
+pub agrees_half : (m : Option Duration) (raw : Duration) (z : ℤ) → duration raw ≡ z → (Says : Done → Type 0) (k : Option Duration → Worked Done) → ((o : Option Duration) → GivenBy m (λ last. half (last -ℤ z)) o → Agrees [] Says (k o)) → Agrees (if_there m (λ last. last -ℤ z)) Says (half_below m raw then k)
 unfolding less_duration
-agrees_half MaybeDuration.None raw z e Says k next = next MaybeDuration.None tt
-agrees_half (MaybeDuration.Some m) raw z e Says k next =
-    subst (Agrees ((durations ∋ duration m -ℤ z) ∷ []) Says) (sym (then_then (less_duration m raw) (λ d. worked (MaybeDuration.Some (half_of d))) k))
-    (agrees_duration (duration m -ℤ z) [] Says (λ d. k (MaybeDuration.Some (half_of d))) (duration m -ℤ duration raw) (ap (λ (x : ℤ). duration m -ℤ x) e)
-    (λ d i. next (MaybeDuration.Some (half_of d)) (half_means (duration m -ℤ z) d i)))
+agrees_half None raw z e Says k next = next None tt
+agrees_half (Some m) raw z e Says k next =
+    subst (Agrees ((durations ∋ duration m -ℤ z) ∷ []) Says) (sym (then_then (less_duration m raw) (λ d. worked (Some (half_of d))) k))
+    (agrees_duration (duration m -ℤ z) [] Says (λ d. k (Some (half_of d))) (duration m -ℤ duration raw) (ap (λ (x : ℤ). duration m -ℤ x) e)
+    (λ d i. next (Some (half_of d)) (half_means (duration m -ℤ z) d i)))

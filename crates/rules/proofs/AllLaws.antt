@@ -1,8 +1,8 @@
 -- Laws of what a rule comes to, each once for any property of what is worked out and any property of a refusal. A theorem on a rule follows the rule's own shape: one law for each step of it.
-use Rattle.std.specs.Prelude.{◌≡◌, refl, Bool, true, false, cond, ◌&&◌, not, ℕ, ◌+ℤ◌, ◌-ℤ◌}
+use Rattle.std.specs.Prelude.{◌≡◌, refl, Bool, true, false, cond, ◌&&◌, not, ℕ, ◌+ℤ◌, ◌-ℤ◌, Option, Some, None, Result, Ok, Err}
 use Rattle.std.proofs.Common.{subst}
 use Rattle.time.specs.Units.{time, time_of, duration, duration_of, correction}
-use Rattle.rules.specs.Names.{TimeAnswer, DurationAnswer, TimerAnswer, MessageAnswer, Message, Time, Duration, Header, Identity, MaybeTime, MaybeIdentity, Exchange, SlaveState, PortState, PeerState, Port, Outcome}
+use Rattle.rules.specs.Names.{Message, Time, Duration, Header, Identity, Exchange, SlaveState, PortState, PeerState, Port, Outcome, TimeError, TimerError}
 use Rattle.record.specs.Record.{as_slave, is_slave}
 use Rattle.fitness.specs.Fit.{there, full}
 use Rattle.rules.specs.Worked.{Worked, worked, refused, ◌then◌, a_time, a_duration, a_message, a_timer, less_correction, plus_correction, elapsed, less_duration}
@@ -45,29 +45,29 @@ module _ {A : Type 0} (P : A → Type 0) (R : Outcome → Type 0) where
   all_as_slave (PortState.Slave s) other f g h = h s refl
 
   -- ---- a complete exchange, with its times
-  pub all_complete : (x : Exchange) (missing : Worked A) (k : Time → Time → Worked A) → (full x ≡ false → Comes P R missing) → ((id : ℕ) (a b : Time) → x ≡ Exchange.Measuring id (MaybeTime.Some a) (MaybeTime.Some b) → Comes P R (k a b)) → Comes P R (complete x missing k)
+  pub all_complete : (x : Exchange) (missing : Worked A) (k : Time → Time → Worked A) → (full x ≡ false → Comes P R missing) → ((id : ℕ) (a b : Time) → x ≡ Exchange.Measuring id (Some a) (Some b) → Comes P R (k a b)) → Comes P R (complete x missing k)
   all_complete Exchange.Empty missing k g h = g refl
-  all_complete (Exchange.Measuring id MaybeTime.None MaybeTime.None) missing k g h = g refl
-  all_complete (Exchange.Measuring id MaybeTime.None (MaybeTime.Some b)) missing k g h = g refl
-  all_complete (Exchange.Measuring id (MaybeTime.Some a) MaybeTime.None) missing k g h = g refl
-  all_complete (Exchange.Measuring id (MaybeTime.Some a) (MaybeTime.Some b)) missing k g h = h id a b refl
+  all_complete (Exchange.Measuring id None None) missing k g h = g refl
+  all_complete (Exchange.Measuring id None (Some b)) missing k g h = g refl
+  all_complete (Exchange.Measuring id (Some a) None) missing k g h = g refl
+  all_complete (Exchange.Measuring id (Some a) (Some b)) missing k g h = h id a b refl
 
-  pub all_peer_complete : (q : PeerState) (missing : Worked A) (k : ℕ → Identity → Time → Time → Time → Time → Worked A) → (peer_done q ≡ false → Comes P R missing) → ((id : ℕ) (i : Identity) (a b c d : Time) → q ≡ PeerState.Measuring id (MaybeIdentity.Some i) (MaybeTime.Some a) (MaybeTime.Some b) (MaybeTime.Some c) (MaybeTime.Some d) → Comes P R (k id i a b c d)) → Comes P R (peer_complete q missing k)
+  pub all_peer_complete : (q : PeerState) (missing : Worked A) (k : ℕ → Identity → Time → Time → Time → Time → Worked A) → (peer_done q ≡ false → Comes P R missing) → ((id : ℕ) (i : Identity) (a b c d : Time) → q ≡ PeerState.Measuring id (Some i) (Some a) (Some b) (Some c) (Some d) → Comes P R (k id i a b c d)) → Comes P R (peer_complete q missing k)
   all_peer_complete PeerState.Empty missing k g h = g refl
-  all_peer_complete (PeerState.Measuring id r MaybeTime.None b c d) missing k g h = g refl
-  all_peer_complete (PeerState.Measuring id r (MaybeTime.Some a) MaybeTime.None c d) missing k g h = g refl
-  all_peer_complete (PeerState.Measuring id r (MaybeTime.Some a) (MaybeTime.Some b) MaybeTime.None d) missing k g h = g refl
-  all_peer_complete (PeerState.Measuring id r (MaybeTime.Some a) (MaybeTime.Some b) (MaybeTime.Some c) MaybeTime.None) missing k g h = g refl
-  all_peer_complete (PeerState.Measuring id MaybeIdentity.None (MaybeTime.Some a) (MaybeTime.Some b) (MaybeTime.Some c) (MaybeTime.Some d)) missing k g h = g refl
-  all_peer_complete (PeerState.Measuring id (MaybeIdentity.Some i) (MaybeTime.Some a) (MaybeTime.Some b) (MaybeTime.Some c) (MaybeTime.Some d)) missing k g h = h id i a b c d refl
+  all_peer_complete (PeerState.Measuring id r None b c d) missing k g h = g refl
+  all_peer_complete (PeerState.Measuring id r (Some a) None c d) missing k g h = g refl
+  all_peer_complete (PeerState.Measuring id r (Some a) (Some b) None d) missing k g h = g refl
+  all_peer_complete (PeerState.Measuring id r (Some a) (Some b) (Some c) None) missing k g h = g refl
+  all_peer_complete (PeerState.Measuring id None (Some a) (Some b) (Some c) (Some d)) missing k g h = g refl
+  all_peer_complete (PeerState.Measuring id (Some i) (Some a) (Some b) (Some c) (Some d)) missing k g h = h id i a b c d refl
   all_peer_complete (PeerState.Measured id r) missing k g h = g refl
 
 -- a message that is waited for: where its exchange is not open, or has this time, nothing changes; else the sum is stored
-pub all_awaited : {X : Type 0} (P : Change X → Type 0) (R : Outcome → Type 0) (is_open : Bool) (place : MaybeTime) (sum : Worked Time) (put : Time → X) → Comes Anything R sum → (is_open && not (there place) ≡ false → P stays) → ((t : Time) → is_open && not (there place) ≡ true → sum ≡ worked t → P (becomes (put t))) → Comes P R (awaited is_open place sum put)
+pub all_awaited : {X : Type 0} (P : Change X → Type 0) (R : Outcome → Type 0) (is_open : Bool) (place : Option Time) (sum : Worked Time) (put : Time → X) → Comes Anything R sum → (is_open && not (there place) ≡ false → P stays) → ((t : Time) → is_open && not (there place) ≡ true → sum ≡ worked t → P (becomes (put t))) → Comes P R (awaited is_open place sum put)
 all_awaited P R false place sum put s f g = f refl
-all_awaited P R true (MaybeTime.Some u) sum put s f g = f refl
-all_awaited P R true MaybeTime.None (worked t) put s f g = g t refl refl
-all_awaited P R true MaybeTime.None (refused o) put s f g = s
+all_awaited P R true (Some u) sum put s f g = f refl
+all_awaited P R true None (worked t) put s f g = g t refl refl
+all_awaited P R true None (refused o) put s f g = s
 
 -- ---- an exchange that stays, or is stored
 pub all_kept : (P : Done → Type 0) (R : Outcome → Type 0) {X : Type 0} (p : Port) (store : X → Port) (c : Change X) → (c ≡ stays → P (changed p false)) → ((x : X) → c ≡ becomes x → Comes P R (settle (store x))) → Comes P R (keeping p store c)
@@ -80,13 +80,13 @@ all_silent (worked a) = tt
 all_silent (refused o) = tt
 
 module _ (R : Outcome → Type 0) (range : R Outcome.Range) where
-  a_time_lem : (a : TimeAnswer) → Comes Anything R (a_time a)
-  a_time_lem (TimeAnswer.Value t) = tt
-  a_time_lem TimeAnswer.Out = range
+  a_time_lem : (a : Result Time TimeError) → Comes Anything R (a_time a)
+  a_time_lem (Ok t) = tt
+  a_time_lem (Err TimeError.OutOfRange) = range
 
-  a_duration_lem : (a : DurationAnswer) → Comes Anything R (a_duration a)
-  a_duration_lem (DurationAnswer.Value t) = tt
-  a_duration_lem DurationAnswer.Out = range
+  a_duration_lem : (a : Result Duration TimeError) → Comes Anything R (a_duration a)
+  a_duration_lem (Ok t) = tt
+  a_duration_lem (Err TimeError.OutOfRange) = range
 
   pub all_less_correction : (t : Time) (h : Header) → Comes Anything R (less_correction t h)
   unfolding less_correction
@@ -105,11 +105,11 @@ module _ (R : Outcome → Type 0) (range : R Outcome.Range) where
   all_less a b = a_duration_lem (duration_of (duration a -ℤ duration b))
 
 module _ {A : Type 0} (P : A → Type 0) (R : Outcome → Type 0) where
-  pub all_sent : R Outcome.Range → (a : MessageAnswer) (next : Message → Worked A) → ((m : Message) → a ≡ MessageAnswer.Value m → Comes P R (next m)) → Comes P R (a_message a then next)
-  all_sent range (MessageAnswer.Value m) next f = f m refl
-  all_sent range MessageAnswer.Out next f = range
+  pub all_sent : R Outcome.Range → (a : Result Message TimeError) (next : Message → Worked A) → ((m : Message) → a ≡ Ok m → Comes P R (next m)) → Comes P R (a_message a then next)
+  all_sent range (Ok m) next f = f m refl
+  all_sent range (Err TimeError.OutOfRange) next f = range
 
-  pub all_timed : R Outcome.Unfit → R Outcome.Limits → (a : TimerAnswer) (next : ℕ → Worked A) → ((ns : ℕ) → a ≡ TimerAnswer.Value ns → Comes P R (next ns)) → Comes P R (a_timer a then next)
-  all_timed unfit limits (TimerAnswer.Value ns) next f = f ns refl
-  all_timed unfit limits TimerAnswer.Interval next f = unfit
-  all_timed unfit limits TimerAnswer.Draw next f = limits
+  pub all_timed : R Outcome.Unfit → R Outcome.Limits → (a : Result ℕ TimerError) (next : ℕ → Worked A) → ((ns : ℕ) → a ≡ Ok ns → Comes P R (next ns)) → Comes P R (a_timer a then next)
+  all_timed unfit limits (Ok ns) next f = f ns refl
+  all_timed unfit limits (Err TimerError.Interval) next f = unfit
+  all_timed unfit limits (Err TimerError.Draw) next f = limits

@@ -1,9 +1,9 @@
 -- What a taken event changes of configuration, ids and mean delay, as `Changes` says it; and what is there once a state is set.
-use Rattle.std.specs.Prelude.{◌≡◌, refl, Bool, true, false, cond, ℕ}
+use Rattle.std.specs.Prelude.{◌≡◌, refl, Bool, true, false, cond, ℕ, Option, Some, None}
 use Rattle.std.proofs.Common.{sym, ap, ◌∙◌}
 use Rattle.record.specs.Ids.{id_after}
 use Rattle.record.specs.Record.{is_master, is_slave, with_sync, with_delay, with_slave, with_peer, with_state, slave_of}
-use Rattle.rules.specs.Names.{Identity, MaybeDuration, PortState, Port, NewState, Outcome}
+use Rattle.rules.specs.Names.{Identity, PortState, Port, NewState, Outcome, Duration}
 use Rattle.rules.specs.Worked.{worked}
 use Rattle.rules.specs.Events.{Event, event, general, stamp, sync_timer, delay_timer, filter_answer, set_state, Done, answered}
 use Rattle.rules.specs.Measuring.{settle, sync_out, delay_out, peer_out}
@@ -52,17 +52,17 @@ module _ (p : Port) (e : Event) where
 picked : {A : Type 0} (b c : Bool) (x y : A) → b ≡ c → cond c x y ≡ cond b x y
 picked b c x y e = ap (λ t. cond t x y) (sym e)
 
-mean_given_lem : (p : Port) (given : MaybeDuration) → (mean_given p given).mean ≡ last_given given p.mean
-mean_given_lem p MaybeDuration.None = refl
-mean_given_lem p (MaybeDuration.Some d) = refl
+mean_given_lem : (p : Port) (given : Option Duration) → (mean_given p given).mean ≡ last_given given p.mean
+mean_given_lem p None = refl
+mean_given_lem p (Some d) = refl
 
-config_given : (p : Port) (given : MaybeDuration) → (mean_given p given).config ≡ p.config
-config_given p MaybeDuration.None = refl
-config_given p (MaybeDuration.Some d) = refl
+config_given : (p : Port) (given : Option Duration) → (mean_given p given).config ≡ p.config
+config_given p None = refl
+config_given p (Some d) = refl
 
-ids_given : (p : Port) (given : MaybeDuration) → (mean_given p given).ids ≡ p.ids
-ids_given p MaybeDuration.None = refl
-ids_given p (MaybeDuration.Some d) = refl
+ids_given : (p : Port) (given : Option Duration) → (mean_given p given).ids ≡ p.ids
+ids_given p None = refl
+ids_given p (Some d) = refl
 
 pub rule_follows : (p : Port) (e : Event) → All (λ d. Follows p e d.port) (rule_of p e)
 unfolding rule_of ids_after mean_after id_after filtered state_set

@@ -1,9 +1,9 @@
 -- DelayResp and the stamp of a DelayReq beside the numbers of `WorkedOut`.
-use Rattle.std.specs.Prelude.{ℕ, ◌≡◌, refl, true, false, cond, ◌&&◌, [], eqb, ◌-ℤ◌}
+use Rattle.std.specs.Prelude.{ℕ, ◌≡◌, refl, true, false, cond, ◌&&◌, [], eqb, ◌-ℤ◌, Option, Some, None}
 use Rattle.std.proofs.Common.{sym, subst}
 use Rattle.std.proofs.Math.Bool.{Bool, not}
 use Rattle.std.proofs.Math.IntN.{ℤ}
-use Rattle.rules.specs.Names.{Time, Header, Identity, MaybeTime, Exchange, SlaveState, Context, Port}
+use Rattle.rules.specs.Names.{Time, Header, Identity, Exchange, SlaveState, Context, Port}
 use Rattle.time.specs.Units.{time, time_of, correction}
 use Rattle.record.specs.Record.{with_slave, with_delay}
 use Rattle.fitness.specs.Fit.{there, full, peer_full}
@@ -32,21 +32,21 @@ module _ (p : Port) (s : SlaveState) (q : peer_full p.peer ≡ false) (f : full 
   -- ---- the stamp
 
   -- a send time for an exchange that has none
-  filled : (k : ℕ) (t : Time) (receive : MaybeTime) → Judged slave (held receive (λ r. delay (time t) r)) (keeping slave store (becomes (Exchange.Measuring k (MaybeTime.Some t) receive)))
-  filled k t MaybeTime.None = stored (Exchange.Measuring k (MaybeTime.Some t) MaybeTime.None) unfinished (refl, tt)
-  filled k t (MaybeTime.Some u) =
-      stored (Exchange.Measuring k (MaybeTime.Some t) (MaybeTime.Some u)) (delay (time t) (time u))
-      (delay_judged p s (Exchange.Measuring k (MaybeTime.Some t) (MaybeTime.Some u)) t u)
+  filled : (k : ℕ) (t : Time) (receive : Option Time) → Judged slave (held receive (λ r. delay (time t) r)) (keeping slave store (becomes (Exchange.Measuring k (Some t) receive)))
+  filled k t None = stored (Exchange.Measuring k (Some t) None) unfinished (refl, tt)
+  filled k t (Some u) =
+      stored (Exchange.Measuring k (Some t) (Some u)) (delay (time t) (time u))
+      (delay_judged p s (Exchange.Measuring k (Some t) (Some u)) t u)
 
   stamp_exchange : (id : ℕ) (t : Time) (x : Exchange) → SumsJudged slave (cond (opened id x && not (there (send_in x))) (record { numbers = []; completes = held (receive_in x) (λ r. delay (time t) r) }) no_sums) (keeping slave store (delay_stamped id t x))
   unfolding delay_stamped
   stamp_exchange id t Exchange.Empty = (refl, tt)
-  stamp_exchange id t (Exchange.Measuring k (MaybeTime.Some u) receive) =
+  stamp_exchange id t (Exchange.Measuring k (Some u) receive) =
       by_test (λ b c. SumsJudged slave (cond (b && false) (record { numbers = []; completes = held receive (λ r. delay (time t) r) }) no_sums) (keeping slave store c)) (eqb k id) stays stays
       (refl, tt)
       (refl, tt)
-  stamp_exchange id t (Exchange.Measuring k MaybeTime.None receive) =
-      by_test (λ b c. SumsJudged slave (cond (b && true) (record { numbers = []; completes = held receive (λ r. delay (time t) r) }) no_sums) (keeping slave store c)) (eqb k id) (becomes (Exchange.Measuring k (MaybeTime.Some t) receive)) stays
+  stamp_exchange id t (Exchange.Measuring k None receive) =
+      by_test (λ b c. SumsJudged slave (cond (b && true) (record { numbers = []; completes = held receive (λ r. delay (time t) r) }) no_sums) (keeping slave store c)) (eqb k id) (becomes (Exchange.Measuring k (Some t) receive)) stays
       (filled k t receive)
       (refl, tt)
 
@@ -56,11 +56,11 @@ module _ (p : Port) (s : SlaveState) (q : peer_full p.peer ≡ false) (f : full 
 
   -- ---- the response
 
-  heard : (k : ℕ) (t : Time) (send : MaybeTime) → Judged slave (held send (λ a. delay a (time t))) (keeping slave store (becomes (Exchange.Measuring k send (MaybeTime.Some t))))
-  heard k t MaybeTime.None = stored (Exchange.Measuring k MaybeTime.None (MaybeTime.Some t)) unfinished (refl, tt)
-  heard k t (MaybeTime.Some u) =
-      stored (Exchange.Measuring k (MaybeTime.Some u) (MaybeTime.Some t)) (delay (time u) (time t))
-      (delay_judged p s (Exchange.Measuring k (MaybeTime.Some u) (MaybeTime.Some t)) u t)
+  heard : (k : ℕ) (t : Time) (send : Option Time) → Judged slave (held send (λ a. delay a (time t))) (keeping slave store (becomes (Exchange.Measuring k send (Some t))))
+  heard k t None = stored (Exchange.Measuring k None (Some t)) unfinished (refl, tt)
+  heard k t (Some u) =
+      stored (Exchange.Measuring k (Some u) (Some t)) (delay (time u) (time t))
+      (delay_judged p s (Exchange.Measuring k (Some u) (Some t)) u t)
 
   module _ (id : ℕ) (z : ℤ) where
     abbrev sum : Worked Time
@@ -69,20 +69,20 @@ module _ (p : Port) (s : SlaveState) (q : peer_full p.peer ≡ false) (f : full 
     abbrev rest : Worked (Change Exchange) → Worked Done
     rest w = w then λ c. keeping slave store c
 
-    answer : (k : ℕ) (send : MaybeTime) → SumsJudged slave (corrected z (held send (λ a. delay a z))) (rest (sum then λ t. worked (becomes (Exchange.Measuring k send (MaybeTime.Some t)))))
+    answer : (k : ℕ) (send : Option Time) → SumsJudged slave (corrected z (held send (λ a. delay a z))) (rest (sum then λ t. worked (becomes (Exchange.Measuring k send (Some t)))))
     answer k send =
-        subst (SumsJudged slave (corrected z (held send (λ a. delay a z)))) (sym (then_then sum (λ t. worked (becomes (Exchange.Measuring k send (MaybeTime.Some t)))) (λ c. keeping slave store c)))
+        subst (SumsJudged slave (corrected z (held send (λ a. delay a z)))) (sym (then_then sum (λ t. worked (becomes (Exchange.Measuring k send (Some t)))) (λ c. keeping slave store c)))
         (agrees_time z (numbers_of slave (held send (λ a. delay a z))) _ _ (λ t i.
-        subst (λ (y : ℤ). Judged slave (held send (λ a. delay a y)) (keeping slave store (becomes (Exchange.Measuring k send (MaybeTime.Some t))))) i.value (heard k t send)))
+        subst (λ (y : ℤ). Judged slave (held send (λ a. delay a y)) (keeping slave store (becomes (Exchange.Measuring k send (Some t))))) i.value (heard k t send)))
 
     answer_exchange : (x : Exchange) → SumsJudged slave (cond (opened id x && not (there (receive_in x))) (corrected z (held (send_in x) (λ a. delay a z))) no_sums) (rest (delay_answered id sum x))
     unfolding delay_answered
     answer_exchange Exchange.Empty = (refl, tt)
-    answer_exchange (Exchange.Measuring k send (MaybeTime.Some u)) =
+    answer_exchange (Exchange.Measuring k send (Some u)) =
         by_test (λ b c. SumsJudged slave (cond (b && false) (corrected z (held send (λ a. delay a z))) no_sums) (rest c)) (eqb k id) (worked stays) (worked stays)
         (refl, tt)
         (refl, tt)
-    answer_exchange (Exchange.Measuring k send MaybeTime.None) =
+    answer_exchange (Exchange.Measuring k send None) =
         by_test (λ b c. SumsJudged slave (cond (b && true) (corrected z (held send (λ a. delay a z))) no_sums) (rest c)) (eqb k id) _ (worked stays)
         (answer k send)
         (refl, tt)

@@ -1,8 +1,7 @@
 -- The seven messages, as the port makes them, tell what `Sending` says of each; and no two messages tell the same.
-use Rattle.std.specs.Prelude.{◌≡◌, refl, Bool, true, false, cond, ℕ, suc, ◌+◌, ◌-◌, ◌*◌, ◌/◌, ◌%◌, ◌^◌, ◌<◌, eqb, pos, negsuc, nat_abs}
+use Rattle.std.specs.Prelude.{◌≡◌, refl, Bool, true, false, cond, ℕ, suc, ◌+◌, ◌-◌, ◌*◌, ◌/◌, ◌%◌, ◌^◌, ◌<◌, eqb, pos, negsuc, nat_abs, Option, Some, None, Result, Ok, Err}
 use Rattle.std.proofs.Math.Path.{sym, subst}
 use Rattle.std.proofs.Common.{ap, ◌∙◌, inl, arith, lit<}
-use Rattle.std.proofs.Math.Option.{Option, none, some}
 use Rattle.std.proofs.Math.Decide.{dec_lt}
 use Rattle.time.specs.Units.{time, signed}
 use Rattle.time.specs.Laws.{signed_low, signed_high}
@@ -10,15 +9,12 @@ use Rattle.time.specs.Lemmas.Integers.{not_below, sub_lt}
 use Rattle.wire.specs.declared.MessageType.TheVariants as M
 use Rattle.octets.proofs.BytesLaws.{apart}
 use Rattle.wire.specs.Layout.{type_of, timestamp_of, rest_in, sdo_id, two_step, two_step_flag}
-use Rattle.sent.specs.declared.CorrectionAnswer.{CorrectionAnswer}
-use Rattle.sent.specs.declared.CorrectionAnswer.TheVariants as C
-use Rattle.sent.specs.declared.Carried.TheVariants as S
 use Rattle.sent.proofs.Laws.{correction_is}
 use Rattle.sent.specs.CarriedLaws.{units_of, fraction_of, late_from, less_of, stamp_of}
 use Rattle.sent.proofs.CarriedLaws.{follow_room, answer_room, follow_timely, follow_out_when, answer_timely, answer_out_when}
 use Rattle.sent.specs.Messages.{header_for, zero_timestamp, correction_of, with_correction, answer_stamp, follow_stamp, sync_of, follow_up_of, delay_req_of, delay_resp_of, p_delay_req_of, p_delay_resp_of, p_delay_resp_follow_up_of}
 use Rattle.sent.proofs.SentLaws.{sdo_sent, carrying_is}
-use Rattle.rules.specs.Names.{Body, Time, WireTimestamp, Header, Identity, Message, MessageAnswer, Config}
+use Rattle.rules.specs.Names.{Body, Time, WireTimestamp, Header, Identity, Message, Config, TimeError}
 use Rattle.rules.specs.Rules.{sender_of}
 use Rattle.rules.specs.Sending.{Carries, no_time, left, came, Due, own_due, answer_due, is_followed, flags_in, interval_in, requester_in, Sends, Fulfils}
 use Rattle.rules.specs.DueLaws.{Carrying, body_from}
@@ -33,15 +29,16 @@ no_time_lem : Carrying no_time zero_timestamp 0
 unfolding zero_timestamp signed
 no_time_lem = record { seconds = refl; nanos = refl; correction_is = refl; fits = lit< tt }
 
-left_is : (t : Time) (w : WireTimestamp) (c : ℕ) → follow_stamp t ≡ S.Value w c → Carrying (left t) w c
+left_is : (t : Time) (w : WireTimestamp) (c : ℕ) → follow_stamp t ≡ Ok (w, c) → Carrying (left t) w c
 unfolding time
 left_is t w c e = go (dec_lt (units_of t) late_from)
   where
     go : Dec (units_of t < late_from) → Carrying (left t) w c
     go (yes k) =
-        let same : S.Value (stamp_of t) (fraction_of t) ≡ S.Value w c = sym (follow_timely t k) ∙ e in
-        let stamp_same : stamp_of t ≡ w = cc in
-        let f_same : fraction_of t ≡ c = cc in
+        let same : ◌≡◌ {A = Result (WireTimestamp × ℕ) TimeError} (Ok (stamp_of t, fraction_of t)) (Ok (w, c)) = sym (follow_timely t k) ∙ e in
+        let parts : ◌≡◌ {A = WireTimestamp × ℕ} (stamp_of t, fraction_of t) (w, c) = cc in
+        let stamp_same : stamp_of t ≡ w = ap (λ (x : WireTimestamp × ℕ). x.0) parts in
+        let f_same : fraction_of t ≡ c = ap (λ (x : WireTimestamp × ℕ). x.1) parts in
         record {
           seconds = ap (λ (v : WireTimestamp). v.seconds) (sym stamp_same);
           nanos = ap (λ (v : WireTimestamp). v.nanos) (sym stamp_same);
@@ -49,14 +46,16 @@ left_is t w c e = go (dec_lt (units_of t) late_from)
           fits = (follow_room t w c e).correction;
         }
     go (no k) =
-        let out : S.Out ≡ S.Value w c = sym (follow_out_when t (not_below (units_of t) late_from k)) ∙ e in
+        let out : ◌≡◌ {A = Result (WireTimestamp × ℕ) TimeError} (Err TimeError.OutOfRange) (Ok (w, c)) = sym (follow_out_when t (not_below (units_of t) late_from k)) ∙ e in
         absurd (apart cc)
 
-with_is : (v w : WireTimestamp) (k : CorrectionAnswer) (c : ℕ) → with_correction v k ≡ S.Value w c → (v ≡ w) × (k ≡ C.Value c)
-with_is v w (C.Value b) c e = (cc, ap C.Value cc)
-with_is v w C.Out c e = absurd (apart cc)
+with_is : (v w : WireTimestamp) (k : Result ℕ TimeError) (c : ℕ) → with_correction v k ≡ Ok (w, c) → (v ≡ w) × (k ≡ Ok c)
+with_is v w (Ok b) c e =
+    let parts : ◌≡◌ {A = WireTimestamp × ℕ} (v, b) (w, c) = cc in
+    (ap (λ (x : WireTimestamp × ℕ). x.0) parts, ap (λ (x : WireTimestamp × ℕ). Ok x.1) parts)
+with_is v w (Err TimeError.OutOfRange) c e = absurd (apart cc)
 
-came_is : (asked : ℕ) (t : Time) (w : WireTimestamp) (c : ℕ) → answer_stamp asked t ≡ S.Value w c → Carrying (came t asked) w c
+came_is : (asked : ℕ) (t : Time) (w : WireTimestamp) (c : ℕ) → answer_stamp asked t ≡ Ok (w, c) → Carrying (came t asked) w c
 unfolding time
 came_is asked t w c e = go (dec_lt (units_of t) late_from)
   where
@@ -70,7 +69,7 @@ came_is asked t w c e = go (dec_lt (units_of t) late_from)
           fits = (answer_room asked t w c e).correction;
         }
     go (no k) =
-        let out : S.Out ≡ S.Value w c = sym (answer_out_when asked t (inl (not_below (units_of t) late_from k))) ∙ e in
+        let out : ◌≡◌ {A = Result (WireTimestamp × ℕ) TimeError} (Err TimeError.OutOfRange) (Ok (w, c)) = sym (answer_out_when asked t (inl (not_below (units_of t) late_from k))) ∙ e in
         absurd (apart cc)
 
 -- ---- the seven messages
@@ -101,41 +100,41 @@ module _ (c : Config) where
         correction_fits = k.fits;
       }
 
-  pub sync_tells : (id : ℕ) → Sends c (own_due M.Sync id no_time) (some (sync_of (sender_of c) id c.sync_interval))
+  pub sync_tells : (id : ℕ) → Sends c (own_due M.Sync id no_time) (Some (sync_of (sender_of c) id c.sync_interval))
   unfolding sync_of
   sync_tells id = tells (Body.Sync zero_timestamp) 0 id no_time no_time_lem
 
-  pub delay_req_tells : (id : ℕ) → Sends c (own_due M.DelayReq id no_time) (some (delay_req_of (sender_of c) id))
+  pub delay_req_tells : (id : ℕ) → Sends c (own_due M.DelayReq id no_time) (Some (delay_req_of (sender_of c) id))
   unfolding delay_req_of
   delay_req_tells id = tells (Body.DelayReq zero_timestamp) 0 id no_time no_time_lem
 
-  pub pdelay_req_tells : (id : ℕ) → Sends c (own_due M.PDelayReq id no_time) (some (p_delay_req_of (sender_of c) id))
+  pub pdelay_req_tells : (id : ℕ) → Sends c (own_due M.PDelayReq id no_time) (Some (p_delay_req_of (sender_of c) id))
   unfolding p_delay_req_of
   pdelay_req_tells id = tells (Body.PDelayReq zero_timestamp) 0 id no_time no_time_lem
 
   -- those that carry a time
   module _ (t : Time) (m : Message) where
-    pub delay_resp_tells : (h : Header) → delay_resp_of (sender_of c) h c.delay_interval t ≡ MessageAnswer.Value m → Sends c (answer_due M.DelayResp h.id h.source (came t h.correction)) (some m)
+    pub delay_resp_tells : (h : Header) → delay_resp_of (sender_of c) h c.delay_interval t ≡ Ok m → Sends c (answer_due M.DelayResp h.id h.source (came t h.correction)) (Some m)
     unfolding delay_resp_of
     delay_resp_tells h e =
         let k = carrying_is (answer_stamp h.correction t) _ m e in
         subst (Fulfils c _) k.made
         (tells (Body.DelayResp k.timestamp h.source) k.correction h.id (came t h.correction) (came_is h.correction t k.timestamp k.correction k.carried))
 
-    pub pdelay_resp_tells : (h : Header) → p_delay_resp_of (sender_of c) h t ≡ MessageAnswer.Value m → Sends c (answer_due M.PDelayResp h.id h.source (came t h.correction)) (some m)
+    pub pdelay_resp_tells : (h : Header) → p_delay_resp_of (sender_of c) h t ≡ Ok m → Sends c (answer_due M.PDelayResp h.id h.source (came t h.correction)) (Some m)
     unfolding p_delay_resp_of
     pdelay_resp_tells h e =
         let k = carrying_is (answer_stamp h.correction t) _ m e in
         subst (Fulfils c _) k.made
         (tells (Body.PDelayResp k.timestamp h.source) k.correction h.id (came t h.correction) (came_is h.correction t k.timestamp k.correction k.carried))
 
-    pub follow_up_tells : (id : ℕ) → follow_up_of (sender_of c) id c.sync_interval t ≡ MessageAnswer.Value m → Sends c (own_due M.FollowUp id (left t)) (some m)
+    pub follow_up_tells : (id : ℕ) → follow_up_of (sender_of c) id c.sync_interval t ≡ Ok m → Sends c (own_due M.FollowUp id (left t)) (Some m)
     unfolding follow_up_of
     follow_up_tells id e =
         let k = carrying_is (follow_stamp t) _ m e in
         subst (Fulfils c _) k.made (tells (Body.FollowUp k.timestamp) k.correction id (left t) (left_is t k.timestamp k.correction k.carried))
 
-    pub pdelay_resp_follow_up_tells : (id : ℕ) (i : Identity) → p_delay_resp_follow_up_of (sender_of c) id i t ≡ MessageAnswer.Value m → Sends c (answer_due M.PDelayRespFollowUp id i (left t)) (some m)
+    pub pdelay_resp_follow_up_tells : (id : ℕ) (i : Identity) → p_delay_resp_follow_up_of (sender_of c) id i t ≡ Ok m → Sends c (answer_due M.PDelayRespFollowUp id i (left t)) (Some m)
     unfolding p_delay_resp_follow_up_of
     pdelay_resp_follow_up_tells id i e =
         let k = carrying_is (follow_stamp t) _ m e in
@@ -220,9 +219,9 @@ module _ (c : Config) (d : Due) (m n : Message) (x : Fulfils c d m) (y : Fulfils
   told_once = λ i. record { header = header_once i; body = body_once i }
 
 pub sent_once : (c : Config) (x : Option Due) (m n : Option Message) → Sends c x m → Sends c x n → m ≡ n
-sent_once c none none none k l = refl
-sent_once c none none (some n) k l = absurd l
-sent_once c none (some m) n k l = absurd k
-sent_once c (some d) none n k l = absurd k
-sent_once c (some d) (some m) none k l = absurd l
-sent_once c (some d) (some m) (some n) k l = ap some (told_once c d m n k l)
+sent_once c None None None k l = refl
+sent_once c None None (Some n) k l = absurd l
+sent_once c None (Some m) n k l = absurd k
+sent_once c (Some d) None n k l = absurd k
+sent_once c (Some d) (Some m) None k l = absurd l
+sent_once c (Some d) (Some m) (Some n) k l = ap Some (told_once c d m n k l)

@@ -1,6 +1,6 @@
 -- A property of every ending of every rule holds of what any event comes to. `Heard` is for messages and stamps, `Every` for all events.
-use Rattle.std.specs.Prelude.{◌≡◌, refl, Bool, true, false, cond, List, ℕ}
-use Rattle.rules.specs.Names.{Time, Header, Body, Port, Config, Context, Outcome, Reading}
+use Rattle.std.specs.Prelude.{◌≡◌, refl, Bool, true, false, cond, List, ℕ, Ok, Err}
+use Rattle.rules.specs.Names.{Time, Header, Body, Port, Config, Context, Outcome, Received, ReadError, Reading}
 use Rattle.reading.specs.Reading.{read_of}
 use Rattle.rules.specs.Worked.{Worked, refused}
 use Rattle.rules.specs.Events.{Event, event, general, stamp, sync_timer, delay_timer, filter_answer, set_state, Done}
@@ -23,12 +23,12 @@ either_row : (P : Done → Type 0) (R : Outcome → Type 0) (b : Bool) (o w : Ou
 either_row P R true o w f g = f
 either_row P R false o w f g = g
 
-pub all_viewed : (P : Done → Type 0) (R : Outcome → Type 0) → Rows R → (c : Config) (r : Reading) (rule : Header → Body → Time → Worked Done) → ((h : Header) (b : Body) (t : Time) → r ≡ Reading.Message h b t → Comes P R (rule h b t)) → Comes P R (viewed c r rule)
-all_viewed P R rows c (Reading.Message h b t) rule f =
+pub all_viewed : (P : Done → Type 0) (R : Outcome → Type 0) → Rows R → (c : Config) (r : Reading) (rule : Header → Body → Time → Worked Done) → ((h : Header) (b : Body) (t : Time) → r ≡ Ok (Received.Message h b t) → Comes P R (rule h b t)) → Comes P R (viewed c r rule)
+all_viewed P R rows c (Ok (Received.Message h b t)) rule f =
     all_cond P R (ours c h) (rule h b t) (refused Outcome.Foreign) (λ e. f h b t refl) (λ e. rows.foreign)
-all_viewed P R rows c (Reading.Host h) rule f = either_row P R (ours c h) Outcome.Host Outcome.Foreign rows.host rows.foreign
-all_viewed P R rows c Reading.Version rule f = rows.version
-all_viewed P R rows c Reading.Malformed rule f = rows.malformed
+all_viewed P R rows c (Ok (Received.Host h)) rule f = either_row P R (ours c h) Outcome.Host Outcome.Foreign rows.host rows.foreign
+all_viewed P R rows c (Err ReadError.Version) rule f = rows.version
+all_viewed P R rows c (Err ReadError.Malformed) rule f = rows.malformed
 
 -- ---- messages and stamps
 

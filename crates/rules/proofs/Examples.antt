@@ -1,8 +1,8 @@
 -- Worked examples on the whole port, each computed from the bytes of its messages: document 01's marked ones for Sync, Delay, ids and the timer, and what tells a rule from its slips. `ExamplesPeer` has the peer exchange, and the statement over the marked set.
-use Rattle.std.specs.Prelude.{◌-◌, ◌^◌, ◌≡◌, refl, true, false, [], ◌∷◌, pos}
+use Rattle.std.specs.Prelude.{◌-◌, ◌^◌, ◌≡◌, refl, true, false, [], ◌∷◌, pos, Some, None}
 use Rattle.time.specs.Units.{time_words}
 use Rattle.record.specs.Record.{with_state}
-use Rattle.rules.specs.Names.{Body, Mechanism, PortState, MaybeDuration, MaybeNanoseconds, Context, NewState, Action, Outcome, Measurement}
+use Rattle.rules.specs.Names.{Body, Mechanism, PortState, Context, NewState, Action, Outcome, Measurement}
 use Rattle.rules.specs.Events.{event, general, stamp, sync_timer, delay_timer, filter_answer, set_state}
 use Rattle.rules.specs.Exchanges.{received, sent_at}
 use Rattle.rules.specs.Actions.{timers_first}
@@ -51,22 +51,22 @@ middle_draw = refl
 -- ---- what is kept: the mean delay, which the offset is less; the last raw offset, which no mean delay changes
 
 -- raw 100, less a mean of 30
-pub less_mean_lem : lines (run_of (slave 0) (filter_answer (record { mean_delay = MaybeDuration.Some (lasting 30); next_update = MaybeNanoseconds.None }) ∷ event (ns 1000) (one_step_sync_of 7 900) ∷ request_stamped (general (delay_resp_from master us 1960) ∷ []))) ≡ quiet ∷ measures (Measurement.Sync (ns 1000) (lasting 100) (MaybeDuration.Some (lasting 70))) ∷ quiet ∷ quiet ∷ measures (Measurement.Delay (ns 2000) (lasting 40) (MaybeDuration.Some (lasting 30))) ∷ []
+pub less_mean_lem : lines (run_of (slave 0) (filter_answer (record { mean_delay = Some (lasting 30); next_update = None }) ∷ event (ns 1000) (one_step_sync_of 7 900) ∷ request_stamped (general (delay_resp_from master us 1960) ∷ []))) ≡ quiet ∷ measures (Measurement.Sync (ns 1000) (lasting 100) (Some (lasting 70))) ∷ quiet ∷ quiet ∷ measures (Measurement.Delay (ns 2000) (lasting 40) (Some (lasting 30))) ∷ []
 unfolding run_of
 less_mean_lem = refl
 
 -- the newer of two raw offsets, 100 and 300
-pub newer_raw : lines (run_of (slave 0) (event (ns 1000) (one_step_sync_of 7 900) ∷ event (ns 1500) (one_step_sync_of 8 1200) ∷ request_stamped (general (delay_resp_from master us 1960) ∷ []))) ≡ measures (Measurement.Sync (ns 1000) (lasting 100) MaybeDuration.None) ∷ measures (Measurement.Sync (ns 1500) (lasting 300) MaybeDuration.None) ∷ quiet ∷ quiet ∷ measures (Measurement.Delay (ns 2000) (lasting 40) (MaybeDuration.Some (lasting 130))) ∷ []
+pub newer_raw : lines (run_of (slave 0) (event (ns 1000) (one_step_sync_of 7 900) ∷ event (ns 1500) (one_step_sync_of 8 1200) ∷ request_stamped (general (delay_resp_from master us 1960) ∷ []))) ≡ measures (Measurement.Sync (ns 1000) (lasting 100) None) ∷ measures (Measurement.Sync (ns 1500) (lasting 300) None) ∷ quiet ∷ quiet ∷ measures (Measurement.Delay (ns 2000) (lasting 40) (Some (lasting 130))) ∷ []
 unfolding run_of
 newer_raw = refl
 
 -- the response before its stamp; and with no raw offset there is no delay
-pub response_first : lines (run_of (slave 0) (delay_timer 0 ∷ general (delay_resp_from master us 1960) ∷ stamp (ns 2000) (Context.DelayReq 0) ∷ [])) ≡ quiet ∷ quiet ∷ measures (Measurement.Delay (ns 2000) (lasting 40) MaybeDuration.None) ∷ []
+pub response_first : lines (run_of (slave 0) (delay_timer 0 ∷ general (delay_resp_from master us 1960) ∷ stamp (ns 2000) (Context.DelayReq 0) ∷ [])) ≡ quiet ∷ quiet ∷ measures (Measurement.Delay (ns 2000) (lasting 40) None) ∷ []
 unfolding run_of
 response_first = refl
 
 -- a DelayResp that a stranger sends, or that is a stranger's, does nothing: the one that counts still completes
-pub not_ours : lines (run_of (slave 0) (request_stamped (general (delay_resp_from stranger us 1000) ∷ general (delay_resp_from master stranger 1100) ∷ general (delay_resp_from master us 1960) ∷ []))) ≡ quiet ∷ quiet ∷ quiet ∷ quiet ∷ measures (Measurement.Delay (ns 2000) (lasting 40) MaybeDuration.None) ∷ []
+pub not_ours : lines (run_of (slave 0) (request_stamped (general (delay_resp_from stranger us 1000) ∷ general (delay_resp_from master stranger 1100) ∷ general (delay_resp_from master us 1960) ∷ []))) ≡ quiet ∷ quiet ∷ quiet ∷ quiet ∷ measures (Measurement.Delay (ns 2000) (lasting 40) None) ∷ []
 unfolding run_of
 not_ours = refl
 

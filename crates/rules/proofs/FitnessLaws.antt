@@ -1,5 +1,5 @@
 -- Fitness is kept: what a taken event leaves is fit again, so every event behind it finds a fit record.
-use Rattle.std.specs.Prelude.{◌≡◌, false, List, ℕ, ◌^◌, ◌<◌}
+use Rattle.std.specs.Prelude.{◌≡◌, false, List, ℕ, ◌^◌, ◌<◌, Option, Some, None, Ok}
 use Rattle.std.proofs.Math.Path.{refl}
 use Rattle.std.proofs.Common.{sym, ap, ◌∙◌, subst}
 use Rattle.std.proofs.lemmas.Bool.{not-false}
@@ -17,7 +17,7 @@ use Rattle.record.specs.Record.{with_sync, with_delay, with_slave, with_peer}
 use Rattle.fitness.specs.Fit.{time_out, config_out, unfit}
 use Rattle.fitness.specs.FitLaws.{FitSync, FitDelay, FitState, FitPeer, IsFit}
 use Rattle.fitness.proofs.FitLaws.{fit_is, fit_when}
-use Rattle.rules.specs.Names.{Time, Header, Body, MaybeDuration, Exchange, SlaveState, PortState, PeerState, Port, Context, NewState, Outcome, Reading}
+use Rattle.rules.specs.Names.{Time, Header, Body, Exchange, SlaveState, PortState, PeerState, Port, Context, NewState, Outcome, Duration, Received}
 use Rattle.rules.specs.Worked.{less_correction, plus_correction}
 use Rattle.rules.specs.Events.{Event, event, general, stamp, sync_timer, delay_timer, filter_answer, set_state}
 use Rattle.rules.specs.Measuring.{recovered, settle}
@@ -48,7 +48,7 @@ nanos_width : (l : List ℕ) → Bytes l → (timestamp_at body l).nanos < 2 ^ 3
 unfolding timestamp_at
 nanos_width l b = number_lt 40 4 l b
 
-pub message_in_time : (l : List ℕ) (h : Header) (b : Body) (t : Time) → Bytes l → read_of l ≡ Reading.Message h b t → InTime t
+pub message_in_time : (l : List ℕ) (h : Header) (b : Body) (t : Time) → Bytes l → read_of l ≡ Ok (Received.Message h b t) → InTime t
 message_in_time l h b t bytes e =
     let k : IsMessage l h b t = message_is l h b t e in
     let at : timestamp_of b ≡ timestamp_at body l = ap timestamp_of k.body_is ∙ timestamp_body (type_of b) l in
@@ -71,9 +71,9 @@ fit_set NewState.Passive = tt
 fit_set NewState.Faulty = tt
 fit_set (NewState.Slave m) = (tt, tt)
 
-fit_given : (p : Port) → IsFit p → (mean : MaybeDuration) → IsFit (mean_given p mean)
-fit_given p f MaybeDuration.None = f
-fit_given p f (MaybeDuration.Some d) = record { config = f.config; state = f.state; peer = f.peer }
+fit_given : (p : Port) → IsFit p → (mean : Option Duration) → IsFit (mean_given p mean)
+fit_given p f None = f
+fit_given p f (Some d) = record { config = f.config; state = f.state; peer = f.peer }
 
 module _ (p : Port) (fit : IsFit p) where
   -- another state, and another peer exchange

@@ -1,6 +1,6 @@
 -- Every measurement is 01's formula, and each exchange that is completed is measured: for a taken event, what is answered says of the exchange that the event completes what 01 says of it.
-use Rattle.std.specs.Prelude.{ℕ, ◌≡◌, ◌++◌}
-use Rattle.rules.specs.Names.{Time, Header, Body, Reading, Port, Outcome}
+use Rattle.std.specs.Prelude.{ℕ, ◌≡◌, ◌++◌, Ok, Err}
+use Rattle.rules.specs.Names.{Time, Header, Body, Port, Outcome, Received, ReadError, Reading}
 use Rattle.reading.specs.Reading.{read_of}
 use Rattle.rules.specs.Worked.{Worked, refused}
 use Rattle.rules.specs.Events.{Event, event, general, stamp, sync_timer, delay_timer, filter_answer, set_state, Done}
@@ -26,12 +26,12 @@ module _ (p : Port) where
   agreed s w a = agrees_all (s.numbers ++ numbers_of p s.completes) _ w a
 
   read_said : (sums : Header → Body → Time → Sums) (rule : Header → Body → Time → Worked Done) → ((h : Header) (b : Body) (t : Time) → SumsJudged p (sums h b t) (rule h b t)) → (r : Reading) → Said (of_reading no_sums sums r) (viewed p.config r rule)
-  read_said sums rule judged (Reading.Message h b t) =
+  read_said sums rule judged (Ok (Received.Message h b t)) =
       by_test (λ o w. Said (sums h b t) w) (ours p.config h) (rule h b t) (refused Outcome.Foreign) (agreed (sums h b t) (rule h b t) (judged h b t)) tt
-  read_said sums rule judged (Reading.Host h) =
+  read_said sums rule judged (Ok (Received.Host h)) =
       by_test (λ o w. Said no_sums w) (ours p.config h) (refused Outcome.Host) (refused Outcome.Foreign) tt tt
-  read_said sums rule judged Reading.Version = tt
-  read_said sums rule judged Reading.Malformed = tt
+  read_said sums rule judged (Err ReadError.Version) = tt
+  read_said sums rule judged (Err ReadError.Malformed) = tt
 
   rule_said : Open p → (e : Event) → Said (sums_of p e) (rule_of p e)
   unfolding rule_of sums_of filtered state_set

@@ -1,13 +1,13 @@
 -- The whole record after a taken event, determined without the rules: `Held` for its exchanges, `Changes` for the rest of it. And which exchanges an event leaves alone.
-use Rattle.std.specs.Prelude.{ℕ, ◌≡◌, Bool, true, cond, ◌&&◌, List, eqb}
+use Rattle.std.specs.Prelude.{ℕ, ◌≡◌, Bool, true, cond, ◌&&◌, List, eqb, Option, Some, None, Ok, Err}
 use Rattle.std.proofs.Math.Path.{refl, sym}
 use Rattle.std.proofs.Common.{ap, ◌∙◌, subst}
 use Rattle.std.proofs.Math.Bool.{false}
 use Rattle.reading.specs.Reading.{read_of}
 use Rattle.record.specs.Record.{state_number, is_faulty, as_slave}
-use Rattle.rules.specs.Names.{Time, Header, Body, Reading, MaybeDuration, SlaveState, PortState, Mechanism, Port, Context, NewState, Outcome}
+use Rattle.rules.specs.Names.{Time, Header, Body, SlaveState, PortState, Mechanism, Port, Context, NewState, Outcome, Duration, Received, ReadError, Reading}
 use Rattle.rules.specs.Worked.{Worked, worked, refused}
-use Rattle.rules.specs.Events.{Event, event, general, stamp, sync_timer, delay_timer, filter_answer, set_state, Done, Result, answered, changed}
+use Rattle.rules.specs.Events.{Event, event, general, stamp, sync_timer, delay_timer, filter_answer, set_state, Done, Answered, answered, changed}
 use Rattle.rules.specs.Rules.{stamped, delay_timer_ends, on_event, on_general, filtered, mean_given, state_set, state_of}
 use Rattle.rules.specs.WorkedOut.{of_reading, sums_of}
 use Rattle.rules.specs.Changes.{second_heard, recovers, new_number, state_after, ids_after, mean_after}
@@ -64,16 +64,16 @@ module _ (p : Port) (o : Open p) where
       all_response_stamped (EndsAs p) Silent tt p t id requester (λ m e. record { state = own_state p.state; peer = refl })
 
   read_holds : (held : Header → Body → Time → Port) (rule : Header → Body → Time → Worked Done) → ((h : Header) (b : Body) (t : Time) → All (EndsAs (held h b t)) (rule h b t)) → (r : Reading) → All (EndsAs (of_reading p held r)) (viewed p.config r rule)
-  read_holds held rule each (Reading.Message h b t) =
+  read_holds held rule each (Ok (Received.Message h b t)) =
       by_test (λ own w. All (EndsAs (held h b t)) w) (ours p.config h) (rule h b t) (refused Outcome.Foreign) (each h b t) tt
-  read_holds held rule each (Reading.Host h) =
+  read_holds held rule each (Ok (Received.Host h)) =
       by_test (λ own w. All (EndsAs p) w) (ours p.config h) (refused Outcome.Host) (refused Outcome.Foreign) tt tt
-  read_holds held rule each Reading.Version = tt
-  read_holds held rule each Reading.Malformed = tt
+  read_holds held rule each (Err ReadError.Version) = tt
+  read_holds held rule each (Err ReadError.Malformed) = tt
 
-  filter_holds : (mean : MaybeDuration) → OnlySlave p.state (mean_given p mean).state × (p.peer ≡ (mean_given p mean).peer)
-  filter_holds MaybeDuration.None = (own_state p.state, refl)
-  filter_holds (MaybeDuration.Some d) = (own_state p.state, refl)
+  filter_holds : (mean : Option Duration) → OnlySlave p.state (mean_given p mean).state × (p.peer ≡ (mean_given p mean).peer)
+  filter_holds None = (own_state p.state, refl)
+  filter_holds (Some d) = (own_state p.state, refl)
 
   set_holds : (new : NewState) → OnlySlave (state_given new) (state_of new)
   set_holds NewState.Listening = tt
@@ -176,10 +176,10 @@ module _ (p : Port) where
   request_leaves Mechanism.Peer = refl
 
   read_leaves : (concern : Body → Concern) (held : Header → Body → Time → Port) → ((h : Header) (b : Body) (t : Time) → Leaves (concern b) (held h b t)) → (r : Reading) → Leaves (of_reading nobody (λ h b t. concern b) r) (of_reading p held r)
-  read_leaves concern held each (Reading.Message h b t) = each h b t
-  read_leaves concern held each (Reading.Host h) = refl
-  read_leaves concern held each Reading.Version = refl
-  read_leaves concern held each Reading.Malformed = refl
+  read_leaves concern held each (Ok (Received.Message h b t)) = each h b t
+  read_leaves concern held each (Ok (Received.Host h)) = refl
+  read_leaves concern held each (Err ReadError.Version) = refl
+  read_leaves concern held each (Err ReadError.Malformed) = refl
 
   number_stays : (c : Concern) (q : Port) → Leaves c q → state_number q.state ≡ state_number p.state
   number_stays nobody q k = ap (λ (r : Port). state_number r.state) k
@@ -245,7 +245,7 @@ module _ (p : Port) where
 -- ---- the theorems
 
 module _ (p : Port) (room : ℕ) (e : Event) (t : (step p room e).outcome ≡ Outcome.Taken) where
-  record Kept (r : Result) : Type 0 where
+  record Kept (r : Answered) : Type 0 where
     state : OnlySlave (exchanges_after p e).state r.port.state
     peer : (exchanges_after p e).peer ≡ r.port.peer
 

@@ -1,5 +1,5 @@
 -- What the exchanges of our own requests hold, delay and peer, after the request, its stamp and its answers: each rule leaves what `Held` says.
-use Rattle.std.specs.Prelude.{ℕ, ◌≡◌, ◌&&◌, eqb, ◌+ℤ◌, ◌-ℤ◌}
+use Rattle.std.specs.Prelude.{ℕ, ◌≡◌, ◌&&◌, eqb, ◌+ℤ◌, ◌-ℤ◌, Option, Some, None}
 use Rattle.std.proofs.Math.Path.{refl, subst}
 use Rattle.std.proofs.Common.{sym, eqb-true}
 use Rattle.std.proofs.Math.Bool.{Bool, true, false, cond, not}
@@ -11,7 +11,7 @@ use Rattle.wire.specs.Layout.{two_step}
 use Rattle.record.specs.Record.{with_delay, with_state, with_slave, with_peer}
 use Rattle.fitness.specs.Fit.{slave_full, full, peer_full}
 use Rattle.record.specs.Same.{same_identity}
-use Rattle.rules.specs.Names.{Time, Header, Identity, MaybeTime, MaybeIdentity, Exchange, SlaveState, PortState, PeerState, Mechanism, Port, Context}
+use Rattle.rules.specs.Names.{Time, Header, Identity, Exchange, SlaveState, PortState, PeerState, Mechanism, Port, Context}
 use Rattle.rules.specs.Worked.{Worked, worked, ◌then◌, a_time, less_correction, plus_correction}
 use Rattle.rules.specs.Events.{Done, nothing, changed}
 use Rattle.rules.specs.Exchanges.{Change, stays, becomes, delay_answered, delay_stamped, peer_stamped, responded, responded_later}
@@ -40,10 +40,10 @@ module _ (p : Port) (s : SlaveState) (q : peer_full p.peer ≡ false) (f : full 
 
   measured_delay : (x y : Exchange) → Delays x (taken_out y) (complete y (nothing (asked y)) (measure_delay (asked y) (with_delay s y)))
   measured_delay x Exchange.Empty = record { state = refl; peer = refl }
-  measured_delay x (Exchange.Measuring id MaybeTime.None receive) = record { state = refl; peer = refl }
-  measured_delay x (Exchange.Measuring id (MaybeTime.Some a) MaybeTime.None) = record { state = refl; peer = refl }
-  measured_delay x (Exchange.Measuring id (MaybeTime.Some a) (MaybeTime.Some b)) =
-      let y : Exchange = Exchange.Measuring id (MaybeTime.Some a) (MaybeTime.Some b) in
+  measured_delay x (Exchange.Measuring id None receive) = record { state = refl; peer = refl }
+  measured_delay x (Exchange.Measuring id (Some a) None) = record { state = refl; peer = refl }
+  measured_delay x (Exchange.Measuring id (Some a) (Some b)) =
+      let y : Exchange = Exchange.Measuring id (Some a) (Some b) in
       all_measure_delay (EndsAs (new_delay (asked x) Exchange.Empty)) Silent tt (asked y) (with_delay s y) a b (λ raw delay. record { state = refl; peer = refl })
 
   stored_delay : (x y : Exchange) → Delays x (taken_out y) (keeping (asked x) asked (becomes y))
@@ -56,14 +56,14 @@ module _ (p : Port) (s : SlaveState) (q : peer_full p.peer ≡ false) (f : full 
   stamp_exchange : (id : ℕ) (t : Time) (x : Exchange) → full x ≡ false → Delays x (cond (opened id x) (taken_out (send_filled t x)) x) (keeping (asked x) asked (delay_stamped id t x))
   unfolding delay_stamped
   stamp_exchange id t Exchange.Empty e = record { state = refl; peer = refl }
-  stamp_exchange id t (Exchange.Measuring k MaybeTime.None receive) e =
-      let x : Exchange = Exchange.Measuring k MaybeTime.None receive in
-      let y : Exchange = Exchange.Measuring k (MaybeTime.Some t) receive in
+  stamp_exchange id t (Exchange.Measuring k None receive) e =
+      let x : Exchange = Exchange.Measuring k None receive in
+      let y : Exchange = Exchange.Measuring k (Some t) receive in
       by_test (λ b c. Delays x (cond b (taken_out y) x) (keeping (asked x) asked c)) (eqb k id) (becomes y) stays
       (stored_delay x y)
       (record { state = refl; peer = refl })
-  stamp_exchange id t (Exchange.Measuring k (MaybeTime.Some u) receive) e =
-      let x : Exchange = Exchange.Measuring k (MaybeTime.Some u) receive in
+  stamp_exchange id t (Exchange.Measuring k (Some u) receive) e =
+      let x : Exchange = Exchange.Measuring k (Some u) receive in
       by_test (λ b c. Delays x (cond b (taken_out x) x) (keeping (asked x) asked c)) (eqb k id) stays stays
       (still_delay x e)
       (record { state = refl; peer = refl })
@@ -78,14 +78,14 @@ module _ (p : Port) (s : SlaveState) (q : peer_full p.peer ≡ false) (f : full 
   answer_exchange : (id : ℕ) (z : ℤ) (x : Exchange) → full x ≡ false → Delays x (cond (opened id x) (taken_out (receive_filled (time_words z) x)) x) (rest x (delay_answered id (a_time (time_of z)) x))
   unfolding delay_answered
   answer_exchange id z Exchange.Empty e = record { state = refl; peer = refl }
-  answer_exchange id z (Exchange.Measuring k send (MaybeTime.Some u)) e =
-      let x : Exchange = Exchange.Measuring k send (MaybeTime.Some u) in
+  answer_exchange id z (Exchange.Measuring k send (Some u)) e =
+      let x : Exchange = Exchange.Measuring k send (Some u) in
       by_test (λ b c. Delays x (cond b (taken_out x) x) (rest x c)) (eqb k id) (worked stays) (worked stays)
       (still_delay x e)
       (record { state = refl; peer = refl })
-  answer_exchange id z (Exchange.Measuring k send MaybeTime.None) e =
-      let x : Exchange = Exchange.Measuring k send MaybeTime.None in
-      let y : Time → Exchange = λ t. Exchange.Measuring k send (MaybeTime.Some t) in
+  answer_exchange id z (Exchange.Measuring k send None) e =
+      let x : Exchange = Exchange.Measuring k send None in
+      let y : Time → Exchange = λ t. Exchange.Measuring k send (Some t) in
       by_test (λ b c. Delays x (cond b (taken_out (y (time_words z))) x) (rest x c)) (eqb k id) (a_time (time_of z) then λ t. worked (becomes (y t))) (worked stays)
       (subst (Delays x (taken_out (y (time_words z)))) (sym (then_then (a_time (time_of z)) (λ t. worked (becomes (y t))) (λ c. keeping (asked x) asked c)))
       (all_time (EndsAs (new_delay (asked x) (taken_out (y (time_words z))))) z _ (λ i. stored_delay x (y (time_words z)))))
@@ -174,21 +174,21 @@ module _ (p : Port) (n : slave_full p.state ≡ false) where
   still q = record { state = own_state p.state; peer = refl }
 
   -- ---- an exchange that is stored
-  settled : (id : ℕ) (w : MaybeIdentity) (a b c d : MaybeTime) → Peers (peer_taken_out id w a b c d) (peer_complete (PeerState.Measuring id w a b c d) (nothing (with_peer p (PeerState.Measuring id w a b c d))) (measure_peer (with_peer p (PeerState.Measuring id w a b c d))))
-  settled id MaybeIdentity.None MaybeTime.None b c d = still _
-  settled id MaybeIdentity.None (MaybeTime.Some a) MaybeTime.None c d = still _
-  settled id MaybeIdentity.None (MaybeTime.Some a) (MaybeTime.Some b) MaybeTime.None d = still _
-  settled id MaybeIdentity.None (MaybeTime.Some a) (MaybeTime.Some b) (MaybeTime.Some c) MaybeTime.None = still _
-  settled id MaybeIdentity.None (MaybeTime.Some a) (MaybeTime.Some b) (MaybeTime.Some c) (MaybeTime.Some d) = still _
-  settled id (MaybeIdentity.Some i) MaybeTime.None b c d = still _
-  settled id (MaybeIdentity.Some i) (MaybeTime.Some a) MaybeTime.None c d = still _
-  settled id (MaybeIdentity.Some i) (MaybeTime.Some a) (MaybeTime.Some b) MaybeTime.None d = still _
-  settled id (MaybeIdentity.Some i) (MaybeTime.Some a) (MaybeTime.Some b) (MaybeTime.Some c) MaybeTime.None = still _
-  settled id (MaybeIdentity.Some i) (MaybeTime.Some a) (MaybeTime.Some b) (MaybeTime.Some c) (MaybeTime.Some d) =
-      all_measure_peer (EndsAs (with_peer p (PeerState.Measured id i))) Silent tt (with_peer p (PeerState.Measuring id (MaybeIdentity.Some i) (MaybeTime.Some a) (MaybeTime.Some b) (MaybeTime.Some c) (MaybeTime.Some d))) id i a b c d
+  settled : (id : ℕ) (w : Option Identity) (a b c d : Option Time) → Peers (peer_taken_out id w a b c d) (peer_complete (PeerState.Measuring id w a b c d) (nothing (with_peer p (PeerState.Measuring id w a b c d))) (measure_peer (with_peer p (PeerState.Measuring id w a b c d))))
+  settled id None None b c d = still _
+  settled id None (Some a) None c d = still _
+  settled id None (Some a) (Some b) None d = still _
+  settled id None (Some a) (Some b) (Some c) None = still _
+  settled id None (Some a) (Some b) (Some c) (Some d) = still _
+  settled id (Some i) None b c d = still _
+  settled id (Some i) (Some a) None c d = still _
+  settled id (Some i) (Some a) (Some b) None d = still _
+  settled id (Some i) (Some a) (Some b) (Some c) None = still _
+  settled id (Some i) (Some a) (Some b) (Some c) (Some d) =
+      all_measure_peer (EndsAs (with_peer p (PeerState.Measured id i))) Silent tt (with_peer p (PeerState.Measuring id (Some i) (Some a) (Some b) (Some c) (Some d))) id i a b c d
       (λ twice. record { state = recovered_state p.state; peer = refl })
 
-  stored : (q : PeerState) (id : ℕ) (w : MaybeIdentity) (a b c d : MaybeTime) → Peers (peer_taken_out id w a b c d) (keeps q (becomes (PeerState.Measuring id w a b c d)))
+  stored : (q : PeerState) (id : ℕ) (w : Option Identity) (a b c d : Option Time) → Peers (peer_taken_out id w a b c d) (keeps q (becomes (PeerState.Measuring id w a b c d)))
   stored q id w a b c d =
       subst (Peers (peer_taken_out id w a b c d)) (sym (settle_peer p (PeerState.Measuring id w a b c d) n)) (settled id w a b c d)
 
@@ -197,14 +197,14 @@ module _ (p : Port) (n : slave_full p.state ≡ false) where
   unfolding stamped peer_stamped
   peer_stamp_holds PeerState.Empty id t = still PeerState.Empty
   peer_stamp_holds (PeerState.Measured k w) id t = still (PeerState.Measured k w)
-  peer_stamp_holds (PeerState.Measuring k w (MaybeTime.Some a) b c d) id t =
-      let q : PeerState = PeerState.Measuring k w (MaybeTime.Some a) b c d in
-      by_test (λ o x. Peers (cond (o && false) (peer_taken_out id (cond o w MaybeIdentity.None) (MaybeTime.Some t) b c d) q) (keeps q x)) (eqb k id) stays stays (still q) (still q)
-  peer_stamp_holds (PeerState.Measuring k w MaybeTime.None b c d) id t =
-      let q : PeerState = PeerState.Measuring k w MaybeTime.None b c d in
-      by_open (λ o x. Peers (cond (o && true) (peer_taken_out id (cond o w MaybeIdentity.None) (MaybeTime.Some t) b c d) q) (keeps q x)) (eqb k id) (becomes (PeerState.Measuring k w (MaybeTime.Some t) b c d)) stays
+  peer_stamp_holds (PeerState.Measuring k w (Some a) b c d) id t =
+      let q : PeerState = PeerState.Measuring k w (Some a) b c d in
+      by_test (λ o x. Peers (cond (o && false) (peer_taken_out id (cond o w None) (Some t) b c d) q) (keeps q x)) (eqb k id) stays stays (still q) (still q)
+  peer_stamp_holds (PeerState.Measuring k w None b c d) id t =
+      let q : PeerState = PeerState.Measuring k w None b c d in
+      by_open (λ o x. Peers (cond (o && true) (peer_taken_out id (cond o w None) (Some t) b c d) q) (keeps q x)) (eqb k id) (becomes (PeerState.Measuring k w (Some t) b c d)) stays
       (λ e.
-      subst (λ (j : ℕ). Peers (peer_taken_out id w (MaybeTime.Some t) b c d) (keeps q (becomes (PeerState.Measuring j w (MaybeTime.Some t) b c d)))) (sym (eqb-true k id e)) (stored q id w (MaybeTime.Some t) b c d))
+      subst (λ (j : ℕ). Peers (peer_taken_out id w (Some t) b c d) (keeps q (becomes (PeerState.Measuring j w (Some t) b c d)))) (sym (eqb-true k id e)) (stored q id w (Some t) b c d))
       (still q)
 
   -- ---- the answers
@@ -239,30 +239,30 @@ module _ (p : Port) (n : slave_full p.state ≡ false) where
     unfolding p_delay_resp less_correction responded
     pdelay_resp_holds PeerState.Empty body at = answer_holds PeerState.Empty (worked stays) false _ _ (still PeerState.Empty)
     pdelay_resp_holds (PeerState.Measured k w) body at = answer_holds (PeerState.Measured k w) (worked stays) false _ _ (still (PeerState.Measured k w))
-    pdelay_resp_holds (PeerState.Measuring k w a b c (MaybeTime.Some d)) body at =
-        let q : PeerState = PeerState.Measuring k w a b c (MaybeTime.Some d) in
+    pdelay_resp_holds (PeerState.Measuring k w a b c (Some d)) body at =
+        let q : PeerState = PeerState.Measuring k w a b c (Some d) in
         answer_holds q _ (eqb k h.id) false _ (idle q (eqb k h.id) _)
-    pdelay_resp_holds (PeerState.Measuring k w a b c MaybeTime.None) body at =
-        let q : PeerState = PeerState.Measuring k w a b c MaybeTime.None in
-        let i : MaybeIdentity = MaybeIdentity.Some h.source in
-        let came : MaybeTime = MaybeTime.Some body in
-        let send : MaybeTime = cond (two_step h) c came in
+    pdelay_resp_holds (PeerState.Measuring k w a b c None) body at =
+        let q : PeerState = PeerState.Measuring k w a b c None in
+        let i : Option Identity = Some h.source in
+        let came : Option Time = Some body in
+        let send : Option Time = cond (two_step h) c came in
         let z : ℤ = time at -ℤ correction h.correction in
         answer_holds q _ (eqb k h.id) true _
-        (awaited q k h.id z (λ j t. PeerState.Measuring j i a came send (MaybeTime.Some t)) (peer_taken_out h.id i a came send (MaybeTime.Some (time_words z)))
-        (stored q h.id i a came send (MaybeTime.Some (time_words z))))
+        (awaited q k h.id z (λ j t. PeerState.Measuring j i a came send (Some t)) (peer_taken_out h.id i a came send (Some (time_words z)))
+        (stored q h.id i a came send (Some (time_words z))))
 
     pub pdelay_resp_follow_up_holds : (q : PeerState) (timestamp : Time) → Peers (p_delay_resp_follow_up_held (with_peer p q) h requester (time_words (time timestamp +ℤ correction h.correction))) (p_delay_resp_follow_up (with_peer p q) h requester timestamp)
     unfolding p_delay_resp_follow_up plus_correction responded_later
     pdelay_resp_follow_up_holds PeerState.Empty timestamp = answer_holds PeerState.Empty (worked stays) false _ _ (still PeerState.Empty)
     pdelay_resp_follow_up_holds (PeerState.Measured k w) timestamp = answer_holds (PeerState.Measured k w) (worked stays) false _ _ (still (PeerState.Measured k w))
-    pdelay_resp_follow_up_holds (PeerState.Measuring k w a b (MaybeTime.Some c) d) timestamp =
-        let q : PeerState = PeerState.Measuring k w a b (MaybeTime.Some c) d in
+    pdelay_resp_follow_up_holds (PeerState.Measuring k w a b (Some c) d) timestamp =
+        let q : PeerState = PeerState.Measuring k w a b (Some c) d in
         answer_holds q _ (eqb k h.id) false _ (idle q (eqb k h.id) _)
-    pdelay_resp_follow_up_holds (PeerState.Measuring k w a b MaybeTime.None d) timestamp =
-        let q : PeerState = PeerState.Measuring k w a b MaybeTime.None d in
-        let i : MaybeIdentity = MaybeIdentity.Some h.source in
+    pdelay_resp_follow_up_holds (PeerState.Measuring k w a b None d) timestamp =
+        let q : PeerState = PeerState.Measuring k w a b None d in
+        let i : Option Identity = Some h.source in
         let z : ℤ = time timestamp +ℤ correction h.correction in
         answer_holds q _ (eqb k h.id) true _
-        (awaited q k h.id z (λ j t. PeerState.Measuring j i a b (MaybeTime.Some t) d) (peer_taken_out h.id i a b (MaybeTime.Some (time_words z)) d)
-        (stored q h.id i a b (MaybeTime.Some (time_words z)) d))
+        (awaited q k h.id z (λ j t. PeerState.Measuring j i a b (Some t) d) (peer_taken_out h.id i a b (Some (time_words z)) d)
+        (stored q h.id i a b (Some (time_words z)) d))

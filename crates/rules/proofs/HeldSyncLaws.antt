@@ -1,5 +1,5 @@
 -- What the sync exchange holds after Sync and FollowUp, and the raw offset that is kept: each rule leaves what `Held` says.
-use Rattle.std.specs.Prelude.{ℕ, ◌≡◌, true, false, ◌&&◌, eqb, ◌+ℤ◌, ◌-ℤ◌}
+use Rattle.std.specs.Prelude.{ℕ, ◌≡◌, true, false, ◌&&◌, eqb, ◌+ℤ◌, ◌-ℤ◌, Option, Some, None, Ok, Err}
 use Rattle.std.proofs.Math.Path.{refl, subst}
 use Rattle.std.proofs.Common.{sym, true≢false}
 use Rattle.std.proofs.Math.Bool.{Bool, cond, not}
@@ -11,7 +11,7 @@ use Rattle.wire.specs.Layout.{two_step}
 use Rattle.record.specs.Record.{with_sync, with_state, with_slave}
 use Rattle.fitness.specs.Fit.{there, full, peer_full}
 use Rattle.record.specs.Same.{same_identity}
-use Rattle.rules.specs.Names.{TimeAnswer, DurationAnswer, Time, Duration, Header, MaybeTime, Measurement, Exchange, SlaveState, PortState, Port}
+use Rattle.rules.specs.Names.{Time, Duration, Header, Measurement, Exchange, SlaveState, PortState, Port, TimeError}
 use Rattle.rules.specs.Worked.{Worked, ◌then◌, a_time, a_duration, less_correction, plus_correction, elapsed, less_duration}
 use Rattle.rules.specs.Events.{Done, nothing}
 use Rattle.rules.specs.Exchanges.{stays, becomes, received, at_once, sent_at, two_step_sync, one_step_sync, synced, followed_up}
@@ -40,7 +40,7 @@ own_state (PortState.Slave s) = refl
 -- ---- a sum that stays in its range
 
 module _ (P : Done → Type 0) (z : ℤ) where
-  by_range : (k : Time → Worked Done) (b : Bool) → in_time z ≡ b → (time (time_words z) ≡ z → All P (k (time_words z))) → All P (a_time (cond b (TimeAnswer.Value (time_words z)) TimeAnswer.Out) then k)
+  by_range : (k : Time → Worked Done) (b : Bool) → in_time z ≡ b → (time (time_words z) ≡ z → All P (k (time_words z))) → All P (a_time (cond b (Ok (time_words z)) (Err TimeError.OutOfRange)) then k)
   by_range k true e f = f (time_is z (time_words z) (time_in z e)).value
   by_range k false e f = tt
 
@@ -48,7 +48,7 @@ module _ (P : Done → Type 0) (z : ℤ) where
   unfolding time_of
   all_time k f = by_range k (in_time z) refl f
 
-  by_room : (k : Duration → Worked Done) (b : Bool) → in_duration z ≡ b → (duration (duration_words z) ≡ z → All P (k (duration_words z))) → All P (a_duration (cond b (DurationAnswer.Value (duration_words z)) DurationAnswer.Out) then k)
+  by_room : (k : Duration → Worked Done) (b : Bool) → in_duration z ≡ b → (duration (duration_words z) ≡ z → All P (k (duration_words z))) → All P (a_duration (cond b (Ok (duration_words z)) (Err TimeError.OutOfRange)) then k)
   by_room k true e f = f (duration_is z (duration_words z) (duration_in z e)).value
   by_room k false e f = tt
 
@@ -69,13 +69,13 @@ all_raw P p s send receive f =
 
 -- ---- the sync exchange: x before the event, y stored by it
 
-with_receive : (k : ℕ) (t : Time) (send : MaybeTime) → completed_by (Exchange.Measuring k send (MaybeTime.Some t)) ≡ held send (λ z. sync z (time t))
-with_receive k t MaybeTime.None = refl
-with_receive k t (MaybeTime.Some u) = refl
+with_receive : (k : ℕ) (t : Time) (send : Option Time) → completed_by (Exchange.Measuring k send (Some t)) ≡ held send (λ z. sync z (time t))
+with_receive k t None = refl
+with_receive k t (Some u) = refl
 
-with_send : (k : ℕ) (t : Time) (receive : MaybeTime) → completed_by (Exchange.Measuring k (MaybeTime.Some t) receive) ≡ held receive (λ z. sync (time t) z)
-with_send k t MaybeTime.None = refl
-with_send k t (MaybeTime.Some u) = refl
+with_send : (k : ℕ) (t : Time) (receive : Option Time) → completed_by (Exchange.Measuring k (Some t) receive) ≡ held receive (λ z. sync (time t) z)
+with_send k t None = refl
+with_send k t (Some u) = refl
 
 module _ (p : Port) (s : SlaveState) (q : peer_full p.peer ≡ false) (e : full s.delay ≡ false) where
   abbrev port : Exchange → Port
@@ -86,10 +86,10 @@ module _ (p : Port) (s : SlaveState) (q : peer_full p.peer ≡ false) (e : full 
 
   settled : (x y : Exchange) → Syncs x (completed_by y) (taken_out y) (complete y (nothing (port y)) (measure_sync (port y) (with_sync s y)))
   settled x Exchange.Empty = record { state = refl; peer = refl }
-  settled x (Exchange.Measuring id MaybeTime.None receive) = record { state = refl; peer = refl }
-  settled x (Exchange.Measuring id (MaybeTime.Some a) MaybeTime.None) = record { state = refl; peer = refl }
-  settled x (Exchange.Measuring id (MaybeTime.Some a) (MaybeTime.Some b)) =
-      let y : Exchange = Exchange.Measuring id (MaybeTime.Some a) (MaybeTime.Some b) in
+  settled x (Exchange.Measuring id None receive) = record { state = refl; peer = refl }
+  settled x (Exchange.Measuring id (Some a) None) = record { state = refl; peer = refl }
+  settled x (Exchange.Measuring id (Some a) (Some b)) =
+      let y : Exchange = Exchange.Measuring id (Some a) (Some b) in
       all_raw (EndsAs (new_sync (port x) (sync (time a) (time b)) Exchange.Empty)) (port y) (with_sync s y) a b (λ m. record { state = refl; peer = refl })
 
   stored : (x y : Exchange) → Syncs x (completed_by y) (taken_out y) (keeping (port x) port (becomes y))
@@ -102,18 +102,18 @@ module _ (p : Port) (s : SlaveState) (q : peer_full p.peer ≡ false) (e : full 
     two_step_lem : (x : Exchange) → full x ≡ false → Syncs x (cond (opened id x && not (there (receive_in x))) (held (send_in x) (λ send. sync send (time t))) unfinished) (taken_out (receive_filled t (of_id id x))) (keeping (port x) port (two_step_sync id t x))
     unfolding two_step_sync
     two_step_lem Exchange.Empty f = stored Exchange.Empty (received id t)
-    two_step_lem (Exchange.Measuring k send MaybeTime.None) f =
-        let x : Exchange = Exchange.Measuring k send MaybeTime.None in
-        let y : Exchange = Exchange.Measuring k send (MaybeTime.Some t) in
+    two_step_lem (Exchange.Measuring k send None) f =
+        let x : Exchange = Exchange.Measuring k send None in
+        let y : Exchange = Exchange.Measuring k send (Some t) in
         by_test (λ b c. Syncs x (cond (b && true) (held send (λ z. sync z (time t))) unfinished) (taken_out (receive_filled t (cond b x (begun id)))) (keeping (port x) port c)) (eqb k id) (becomes y) (becomes (received id t))
         (subst (λ (c : Completed). Syncs x c (taken_out y) (keeping (port x) port (becomes y))) (with_receive k t send) (stored x y))
         (stored x (received id t))
-    two_step_lem (Exchange.Measuring k MaybeTime.None (MaybeTime.Some u)) f =
-        let x : Exchange = Exchange.Measuring k MaybeTime.None (MaybeTime.Some u) in
+    two_step_lem (Exchange.Measuring k None (Some u)) f =
+        let x : Exchange = Exchange.Measuring k None (Some u) in
         by_test (λ b c. Syncs x (cond (b && false) unfinished unfinished) (taken_out (receive_filled t (cond b x (begun id)))) (keeping (port x) port c)) (eqb k id) stays (becomes (received id t))
         (still x)
         (stored x (received id t))
-    two_step_lem (Exchange.Measuring k (MaybeTime.Some v) (MaybeTime.Some u)) f = absurd (true≢false f)
+    two_step_lem (Exchange.Measuring k (Some v) (Some u)) f = absurd (true≢false f)
 
     one_step : (origin : Time) (x : Exchange) → Syncs x (cond (opened id x) unfinished (sync (time origin) (time t))) (cond (opened id x) x Exchange.Empty) (keeping (port x) port (one_step_sync id origin t x))
     unfolding one_step_sync
@@ -127,18 +127,18 @@ module _ (p : Port) (s : SlaveState) (q : peer_full p.peer ≡ false) (e : full 
     follow : (x : Exchange) → full x ≡ false → Syncs x (cond (opened id x && not (there (send_in x))) (held (receive_in x) (λ receive. sync (time t) receive)) unfinished) (taken_out (send_filled t (of_id id x))) (keeping (port x) port (followed_up id t x))
     unfolding followed_up
     follow Exchange.Empty f = stored Exchange.Empty (sent_at id t)
-    follow (Exchange.Measuring k MaybeTime.None receive) f =
-        let x : Exchange = Exchange.Measuring k MaybeTime.None receive in
-        let y : Exchange = Exchange.Measuring k (MaybeTime.Some t) receive in
+    follow (Exchange.Measuring k None receive) f =
+        let x : Exchange = Exchange.Measuring k None receive in
+        let y : Exchange = Exchange.Measuring k (Some t) receive in
         by_test (λ b c. Syncs x (cond (b && true) (held receive (λ z. sync (time t) z)) unfinished) (taken_out (send_filled t (cond b x (begun id)))) (keeping (port x) port c)) (eqb k id) (becomes y) (becomes (sent_at id t))
         (subst (λ (c : Completed). Syncs x c (taken_out y) (keeping (port x) port (becomes y))) (with_send k t receive) (stored x y))
         (stored x (sent_at id t))
-    follow (Exchange.Measuring k (MaybeTime.Some u) MaybeTime.None) f =
-        let x : Exchange = Exchange.Measuring k (MaybeTime.Some u) MaybeTime.None in
+    follow (Exchange.Measuring k (Some u) None) f =
+        let x : Exchange = Exchange.Measuring k (Some u) None in
         by_test (λ b c. Syncs x (cond (b && false) unfinished unfinished) (taken_out (send_filled t (cond b x (begun id)))) (keeping (port x) port c)) (eqb k id) stays (becomes (sent_at id t))
         (still x)
         (stored x (sent_at id t))
-    follow (Exchange.Measuring k (MaybeTime.Some u) (MaybeTime.Some v)) f = absurd (true≢false f)
+    follow (Exchange.Measuring k (Some u) (Some v)) f = absurd (true≢false f)
 
 -- ---- Sync and FollowUp
 

@@ -1,5 +1,5 @@
 -- IEEE 1588-2019, 11.3, over runs: where a Slave keeps the raw offset of a Sync, a delay request, its send stamp and its DelayResp, in either order, measure <meanPathDelay> of the fields of all these messages.
-use Rattle.std.specs.Prelude.{ℕ, ◌≡◌, ℤ, pos, ◌-ℤ◌}
+use Rattle.std.specs.Prelude.{ℕ, ◌≡◌, ℤ, pos, ◌-ℤ◌, Option, Some, None}
 use Rattle.std.proofs.Math.Path.{refl, subst}
 use Rattle.std.proofs.Common.{sym, ap, ◌∙◌, arith, eq-eqb}
 use Rattle.std.proofs.Math.Bool.{cond}
@@ -8,9 +8,9 @@ use Rattle.time.specs.Units.{time, duration, wire, correction, half}
 use Rattle.octets.proofs.BytesLaws.{apart}
 use Rattle.record.specs.Record.{as_slave, with_slave, with_sync, with_delay, with_raw, with_ids}
 use Rattle.record.proofs.SameLaws.{same_identity_lem, identity_self}
-use Rattle.rules.specs.Names.{Time, Duration, Header, Body, MaybeTime, MaybeDuration, Mechanism, Exchange, SlaveState, PortState, Port, Context}
+use Rattle.rules.specs.Names.{Time, Duration, Header, Body, Mechanism, Exchange, SlaveState, PortState, Port, Context}
 use Rattle.rules.specs.Worked.{Worked, worked, ◌then◌, less_correction}
-use Rattle.rules.specs.Events.{Event, stamp, delay_timer, Done, Result, answered, nothing, Brings}
+use Rattle.rules.specs.Events.{Event, stamp, delay_timer, Done, Answered, answered, nothing, Brings}
 use Rattle.rules.specs.Measuring.{settle}
 use Rattle.rules.specs.Exchanges.{Change, stays, becomes, at_once, requested, delay_answered, delay_stamped}
 use Rattle.rules.specs.Rules.{keeping, delay_id_taken, delay_resp, stamped, on_event, on_general}
@@ -37,18 +37,18 @@ module _ (p : Port) (s : SlaveState) (id : ℕ) where
   port_with_delay x = with_slave p (with_delay s x)
 
   -- the request's send stamp
-  stamp_turns : (t3 : Time) (receive : MaybeTime) → Turns (delay_part p s) (Exchange.Measuring id MaybeTime.None receive) (stamp t3 (Context.DelayReq id)) (time t3) (λ t. Exchange.Measuring id (MaybeTime.Some t) receive)
+  stamp_turns : (t3 : Time) (receive : Option Time) → Turns (delay_part p s) (Exchange.Measuring id None receive) (stamp t3 (Context.DelayReq id)) (time t3) (λ t. Exchange.Measuring id (Some t) receive)
   unfolding rule_of stamped delay_stamped
   stamp_turns t3 receive =
-      let x : Exchange = Exchange.Measuring id MaybeTime.None receive in
-      turns (delay_part p s) (worked t3) refl (λ P k. subst (All P) (sym (λ i. keeping (port_with_delay x) port_with_delay (cond (eq-eqb id id refl i) (becomes (Exchange.Measuring id (MaybeTime.Some t3) receive)) stays))) k)
+      let x : Exchange = Exchange.Measuring id None receive in
+      turns (delay_part p s) (worked t3) refl (λ P k. subst (All P) (sym (λ i. keeping (port_with_delay x) port_with_delay (cond (eq-eqb id id refl i) (becomes (Exchange.Measuring id (Some t3) receive)) stays))) k)
 
   -- its DelayResp, by either entry
-  response_turns : (h : Header) → h.id ≡ id → s.master ≡ h.source → (e : Event) (w : WireTimestamp) (t : Time) → Brings p.config e h (Body.DelayResp w p.config.identity) t → (send : MaybeTime) → Turns (delay_part p s) (Exchange.Measuring id send MaybeTime.None) e (time t -ℤ correction h.correction) (λ u. Exchange.Measuring id send (MaybeTime.Some u))
+  response_turns : (h : Header) → h.id ≡ id → s.master ≡ h.source → (e : Event) (w : WireTimestamp) (t : Time) → Brings p.config e h (Body.DelayResp w p.config.identity) t → (send : Option Time) → Turns (delay_part p s) (Exchange.Measuring id send None) e (time t -ℤ correction h.correction) (λ u. Exchange.Measuring id send (Some u))
   unfolding on_event on_general delay_resp delay_answered
   response_turns h same_id from e w t brings send =
-      let x : Exchange = Exchange.Measuring id send MaybeTime.None in
-      let new : Time → Exchange = λ u. Exchange.Measuring id send (MaybeTime.Some u) in
+      let x : Exchange = Exchange.Measuring id send None in
+      let new : Time → Exchange = λ u. Exchange.Measuring id send (Some u) in
       let stored : Time → Worked (Change Exchange) = λ u. worked (becomes (new u)) in
       let g : delay_resp (port_with_delay x) h p.config.identity t ≡ (less_correction t h then λ u. settle (port_with_delay (new u))) = (λ i. cond (identity_self p.config.identity i) (cond ((same_identity_lem s.master h.source).1 from i) (cond (eq-eqb id h.id (sym same_id) i) (less_correction t h then stored) (worked stays) then λ y. keeping (port_with_delay x) port_with_delay y) (nothing (port_with_delay x))) (nothing (port_with_delay x))) ∙ then_then (less_correction t h) stored (keeping (port_with_delay x) port_with_delay) in
       turns (delay_part p s) (less_correction t h) (less_worth t h) (λ P. brought_rule h (Body.DelayResp w p.config.identity) t P (port_with_delay x) _ (λ at. g) g e brings)
@@ -68,8 +68,8 @@ path_delay_of a m d t2 t3 =
 
 -- ---- the orders, from the exchange that a request leaves, on a Slave that keeps the raw offset of these messages
 
-module _ (p : Port) (s : SlaveState) (last : Duration) (keeps_raw : s.raw ≡ MaybeDuration.Some last) (m : Syncs) (t2 : ℤ) (raw_is : duration last ≡ offset_from_master (duration p.config.asymmetry) m t2 (pos 0)) (id : ℕ) (t3 : Time) (e : Event) (h : Header) (w : WireTimestamp) (t : Time) (brings : Brings p.config e h (Body.DelayResp w p.config.identity) t) (same_id : h.id ≡ id) (from : s.master ≡ h.source) where
-  abbrev Goal : Result → Type 0
+module _ (p : Port) (s : SlaveState) (last : Duration) (keeps_raw : s.raw ≡ Some last) (m : Syncs) (t2 : ℤ) (raw_is : duration last ≡ offset_from_master (duration p.config.asymmetry) m t2 (pos 0)) (id : ℕ) (t3 : Time) (e : Event) (h : Header) (w : WireTimestamp) (t : Time) (brings : Brings p.config e h (Body.DelayResp w p.config.identity) t) (same_id : h.id ≡ id) (from : s.master ≡ h.source) where
+  abbrev Goal : Answered → Type 0
   Goal r = MeasuresPathDelay (duration p.config.asymmetry) m (wire_fields h w) t2 (time t3) r
 
   -- a complete exchange measures it
@@ -93,13 +93,13 @@ module _ (p : Port) (s : SlaveState) (last : Duration) (keeps_raw : s.raw ≡ Ma
       let S = stamp_turns p s id t3 in
       let R = response_turns p s id h same_id from e w t brings in
       record {
-        ab = after_two (delay_part p s) Goal (S MaybeTime.None) (λ u. R (MaybeTime.Some u)) (λ u. refl) (λ u v eu ev. ends u v eu ev);
-        ba = after_two (delay_part p s) Goal (R MaybeTime.None) (λ u. S (MaybeTime.Some u)) (λ u. refl) (λ u v eu ev. ends v u ev eu);
+        ab = after_two (delay_part p s) Goal (S None) (λ u. R (Some u)) (λ u. refl) (λ u v eu ev. ends u v eu ev);
+        ba = after_two (delay_part p s) Goal (R None) (λ u. S (Some u)) (λ u. refl) (λ u v eu ev. ends v u ev eu);
       }
 
 -- ---- the theorems: a delay timer on an end_to_end Slave takes the next id and opens its exchange; then these events
 
-module _ (p : Port) (s : SlaveState) (slave : p.state ≡ PortState.Slave s) (end_to_end : p.config.mechanism ≡ Mechanism.EndToEnd) (raw : Duration) (keeps_raw : s.raw ≡ MaybeDuration.Some raw) (m : Syncs) (t2 : ℤ) (raw_is : duration raw ≡ offset_from_master (duration p.config.asymmetry) m t2 (pos 0)) (draw room : ℕ) (k : Taken (step p room (delay_timer draw))) (t3 : Time) (e : Event) (h : Header) (w : WireTimestamp) (t : Time) (brings : Brings p.config e h (Body.DelayResp w p.config.identity) t) (same_id : h.id ≡ p.ids.delay) (from : s.master ≡ h.source) where
+module _ (p : Port) (s : SlaveState) (slave : p.state ≡ PortState.Slave s) (end_to_end : p.config.mechanism ≡ Mechanism.EndToEnd) (raw : Duration) (keeps_raw : s.raw ≡ Some raw) (m : Syncs) (t2 : ℤ) (raw_is : duration raw ≡ offset_from_master (duration p.config.asymmetry) m t2 (pos 0)) (draw room : ℕ) (k : Taken (step p room (delay_timer draw))) (t3 : Time) (e : Event) (h : Header) (w : WireTimestamp) (t : Time) (brings : Brings p.config e h (Body.DelayResp w p.config.identity) t) (same_id : h.id ≡ p.ids.delay) (from : s.master ≡ h.source) where
   pub path_delay : BothOrders (step p room (delay_timer draw)).port (stamp t3 (Context.DelayReq p.ids.delay)) e (MeasuresPathDelay (duration p.config.asymmetry) m (wire_fields h w) t2 (time t3))
   unfolding rule_of
   path_delay =
@@ -113,7 +113,7 @@ module _ (p : Port) (s : SlaveState) (slave : p.state ≡ PortState.Slave s) (en
       (λ f ns. absurd (apart cc))) k
 
 -- after a Sync, one-step or two-step, that measured the offset of these messages (`IeeeLaws`)
-module _ (p : Port) (s : SlaveState) (r : Result) (m : Syncs) (t2 : ℤ) (synced : MeasuresOffset p s r m t2) (end_to_end : p.config.mechanism ≡ Mechanism.EndToEnd) (draw room : ℕ) (k : Taken (step r.port room (delay_timer draw))) (t3 : Time) (e : Event) (h : Header) (w : WireTimestamp) (t : Time) (brings : Brings p.config e h (Body.DelayResp w p.config.identity) t) (same_id : h.id ≡ p.ids.delay) (from : s.master ≡ h.source) where
+module _ (p : Port) (s : SlaveState) (r : Answered) (m : Syncs) (t2 : ℤ) (synced : MeasuresOffset p s r m t2) (end_to_end : p.config.mechanism ≡ Mechanism.EndToEnd) (draw room : ℕ) (k : Taken (step r.port room (delay_timer draw))) (t3 : Time) (e : Event) (h : Header) (w : WireTimestamp) (t : Time) (brings : Brings p.config e h (Body.DelayResp w p.config.identity) t) (same_id : h.id ≡ p.ids.delay) (from : s.master ≡ h.source) where
   pub path_delay_after_sync : BothOrders (step r.port room (delay_timer draw)).port (stamp t3 (Context.DelayReq p.ids.delay)) e (MeasuresPathDelay (duration p.config.asymmetry) m (wire_fields h w) t2 (time t3))
   path_delay_after_sync =
       let kept_slave : SlaveState = with_raw (with_sync s Exchange.Empty) synced.raw in

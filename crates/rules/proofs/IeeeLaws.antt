@@ -1,5 +1,5 @@
 -- IEEE 1588-2019, 11.2, over runs from an empty sync exchange: Sync and FollowUp, whichever comes first, or a one-step Sync alone, measure <offsetFromMaster> of the fields on the wire.
-use Rattle.std.specs.Prelude.{ℕ, ◌≡◌, refl, true, false, List, ℤ, pos, ◌+ℤ◌, ◌-ℤ◌}
+use Rattle.std.specs.Prelude.{ℕ, ◌≡◌, refl, true, false, List, ℤ, pos, ◌+ℤ◌, ◌-ℤ◌, Option, Some, None, Ok}
 use Rattle.std.proofs.Common.{sym, ◌∙◌, arith, eq-eqb}
 use Rattle.std.proofs.Math.Path.{ap, subst}
 use Rattle.std.proofs.Math.Bool.{cond}
@@ -9,9 +9,9 @@ use Rattle.wire.specs.Layout as Layout
 use Rattle.reading.specs.Reading.{read_of}
 use Rattle.record.specs.Record.{with_slave, with_sync}
 use Rattle.record.proofs.SameLaws.{same_identity_lem}
-use Rattle.rules.specs.Names.{Time, Duration, Header, Body, Reading, MaybeDuration, Exchange, SlaveState, PortState, Port, Outcome}
+use Rattle.rules.specs.Names.{Time, Duration, Header, Body, Exchange, SlaveState, PortState, Port, Outcome, Received}
 use Rattle.rules.specs.Worked.{worked, ◌then◌, less_correction, plus_correction}
-use Rattle.rules.specs.Events.{Event, event, Done, Result, answered, nothing, Brings}
+use Rattle.rules.specs.Events.{Event, event, Done, Answered, answered, nothing, Brings}
 use Rattle.rules.specs.Exchanges.{becomes, received, sent_at, at_once, synced, two_step_sync, one_step_sync, followed_up}
 use Rattle.rules.specs.Rules.{sync, follow_up, keeping, on_event, on_general}
 use Rattle.rules.specs.Step.{step}
@@ -30,13 +30,13 @@ use Rattle.rules.specs.IeeeLaws.{IsWorth, MeasuresOffset, wire_fields}
 -- ---- what is measured: the raw offset is <offsetFromMaster> with no mean delay, and the offset that with the one that is stored
 
 -- what is given by a formula over another duration, where that is there and where it is not
-pub given_worth : (stored d : MaybeDuration) (f : ℤ → ℤ) (m : Duration) → stored ≡ MaybeDuration.Some m → GivenBy stored f d → IsWorth d (f (duration m))
-given_worth stored MaybeDuration.None f m e g = subst (λ (x : MaybeDuration). GivenBy x f MaybeDuration.None) e g
-given_worth stored (MaybeDuration.Some d) f m e g = subst (λ (x : MaybeDuration). GivenBy x f (MaybeDuration.Some d)) e g
+pub given_worth : (stored d : Option Duration) (f : ℤ → ℤ) (m : Duration) → stored ≡ Some m → GivenBy stored f d → IsWorth d (f (duration m))
+given_worth stored None f m e g = subst (λ (x : Option Duration). GivenBy x f None) e g
+given_worth stored (Some d) f m e g = subst (λ (x : Option Duration). GivenBy x f (Some d)) e g
 
-not_given : (stored d : MaybeDuration) (f : ℤ → ℤ) → stored ≡ MaybeDuration.None → GivenBy stored f d → d ≡ MaybeDuration.None
-not_given stored MaybeDuration.None f e g = refl
-not_given stored (MaybeDuration.Some d) f e g = absurd (subst (λ (x : MaybeDuration). GivenBy x f (MaybeDuration.Some d)) e g)
+not_given : (stored d : Option Duration) (f : ℤ → ℤ) → stored ≡ None → GivenBy stored f d → d ≡ None
+not_given stored None f e g = refl
+not_given stored (Some d) f e g = absurd (subst (λ (x : Option Duration). GivenBy x f (Some d)) e g)
 
 -- the standard's sum in the port's order: each time corrected by its own message
 offset_of : (a : ℤ) (m : Syncs) (t2 mean : ℤ) → ((t2 -ℤ correction (sync_message m).correction_field) -ℤ (origin_timestamp m +ℤ follow_up_correction m)) -ℤ a -ℤ mean ≡ offset_from_master a m t2 mean
@@ -82,7 +82,7 @@ module _ (p : Port) (s : SlaveState) (h : Header) (t : Time) (from : s.master �
   abbrev port_with_sync : Exchange → Port
   port_with_sync y = with_slave p (with_sync s y)
 
-  sync_turns : (at : Time) (message : List ℕ) (w : WireTimestamp) → read_of message ≡ Reading.Message h (Body.Sync w) t → ((u : Time) → synced h t u x ≡ becomes (new u)) → Turns (sync_part p s) x (event at message) (time at -ℤ correction h.correction) new
+  sync_turns : (at : Time) (message : List ℕ) (w : WireTimestamp) → read_of message ≡ Ok (Received.Message h (Body.Sync w) t) → ((u : Time) → synced h t u x ≡ becomes (new u)) → Turns (sync_part p s) x (event at message) (time at -ℤ correction h.correction) new
   unfolding on_event sync
   sync_turns at message w reads made =
       turns (sync_part p s) (less_correction at h) (less_worth at h) (λ P k.
@@ -97,7 +97,7 @@ module _ (p : Port) (s : SlaveState) (h : Header) (t : Time) (from : s.master �
 
 -- ---- the theorems: a Slave whose sync exchange is empty. All events are answered Taken, which says too that the record is fit
 
-module _ (p : Port) (s : SlaveState) (slave : p.state ≡ PortState.Slave s) (idle : s.sync ≡ Exchange.Empty) (t2 : Time) (message : List ℕ) (hs : Header) (ws : WireTimestamp) (ts : Time) (reads : read_of message ≡ Reading.Message hs (Body.Sync ws) ts) (from : s.master ≡ hs.source) where
+module _ (p : Port) (s : SlaveState) (slave : p.state ≡ PortState.Slave s) (idle : s.sync ≡ Exchange.Empty) (t2 : Time) (message : List ℕ) (hs : Header) (ws : WireTimestamp) (ts : Time) (reads : read_of message ≡ Ok (Received.Message hs (Body.Sync ws) ts)) (from : s.master ≡ hs.source) where
   empty : with_slave p (with_sync s Exchange.Empty) ≡ p
   empty =
       let g : PortState.Slave (with_sync s Exchange.Empty) ≡ p.state = sym (slave ∙ ap (λ (x : Exchange). PortState.Slave (with_sync s x)) idle) in
@@ -114,7 +114,7 @@ module _ (p : Port) (s : SlaveState) (slave : p.state ≡ PortState.Slave s) (id
 
   -- a two-step Sync and its FollowUp, which comes by either entry
   module _ (two : Layout.two_step hs ≡ true) (e : Event) (hf : Header) (wf : WireTimestamp) (tf : Time) (brings : Brings p.config e hf (Body.FollowUp wf) tf) (from_f : s.master ≡ hf.source) (same_id : hf.id ≡ hs.id) (room₁ room₂ : ℕ) where
-    abbrev Goal : Result → Type 0
+    abbrev Goal : Answered → Type 0
     Goal r = MeasuresOffset p s r (Syncs.two_step (wire_fields hs ws) (wire_fields hf wf)) (time t2)
 
     both_orders : BothOrders p (event t2 message) e Goal

@@ -1,5 +1,5 @@
 -- IEEE 1588-2019, 11.4, over runs: after a peer delay request, its send stamp and the answers of one responder, in every order, measure <meanLinkDelay> of the fields on the wire.
-use Rattle.std.specs.Prelude.{ℕ, ◌≡◌, refl, true, false, List, ℤ, ◌+ℤ◌, ◌-ℤ◌}
+use Rattle.std.specs.Prelude.{ℕ, ◌≡◌, refl, true, false, List, ℤ, ◌+ℤ◌, ◌-ℤ◌, Option, Some, None, Ok}
 use Rattle.std.proofs.Common.{sym, ap, ◌∙◌, subst, arith}
 use Rattle.time.specs.declared.WireTimestamp.{WireTimestamp}
 use Rattle.time.specs.Units.{time, duration, wire, correction, half}
@@ -7,9 +7,9 @@ use Rattle.wire.specs.Layout as Layout
 use Rattle.reading.specs.Reading.{read_of}
 use Rattle.octets.proofs.BytesLaws.{apart}
 use Rattle.record.specs.Record.{with_peer}
-use Rattle.rules.specs.Names.{Time, Identity, Header, Body, Reading, MaybeTime, MaybeIdentity, Mechanism, PeerState, Port, Context}
+use Rattle.rules.specs.Names.{Time, Identity, Header, Body, Mechanism, PeerState, Port, Context, Received}
 use Rattle.rules.specs.Worked.{worked}
-use Rattle.rules.specs.Events.{Event, event, stamp, delay_timer, Result, answered, Brings}
+use Rattle.rules.specs.Events.{Event, event, stamp, delay_timer, Answered, answered, Brings}
 use Rattle.rules.specs.Measuring.{peer_out}
 use Rattle.rules.specs.Exchanges.{peer_requested}
 use Rattle.rules.specs.Step.{rule_of, step}
@@ -46,7 +46,7 @@ one_step_link a r t1 t4 =
 
 -- a complete exchange measures it
 module _ (p : Port) (id : ℕ) (responder : Identity) (m : Pdelays) (t1 t4 : ℤ) (z₂ z₃ : ℤ) (sum : half (((t4 -ℤ correction (response m).correction_field) -ℤ t1) -ℤ (z₃ -ℤ z₂)) ≡ mean_link_delay (duration p.config.asymmetry) m t1 t4) where
-  ends : (i : Identity) (a b c d : Time) → i ≡ responder → time a ≡ t1 → time b ≡ z₂ → time c ≡ z₃ → time d ≡ t4 -ℤ correction (response m).correction_field → All (λ r. MeasuresLinkDelay p id responder m t1 t4 (answered p (worked r))) ((peer_part p).measure (PeerState.Measuring id (MaybeIdentity.Some i) (MaybeTime.Some a) (MaybeTime.Some b) (MaybeTime.Some c) (MaybeTime.Some d)))
+  ends : (i : Identity) (a b c d : Time) → i ≡ responder → time a ≡ t1 → time b ≡ z₂ → time c ≡ z₃ → time d ≡ t4 -ℤ correction (response m).correction_field → All (λ r. MeasuresLinkDelay p id responder m t1 t4 (answered p (worked r))) ((peer_part p).measure (PeerState.Measuring id (Some i) (Some a) (Some b) (Some c) (Some d)))
   ends i a b c d same ea eb ec ed =
       complete_has p id i a b c d (MeasuresLinkDelay p id responder m t1 t4) (λ delay g.
       record {
@@ -60,23 +60,23 @@ module _ (p : Port) (id : ℕ) (responder : Identity) (m : Pdelays) (t1 t4 : ℤ
 
 -- ---- the orders, from the exchange that a request leaves
 
-module _ (p : Port) (id : ℕ) (t1 t4 : Time) (message : List ℕ) (hr : Header) (wr : WireTimestamp) (requester : Identity) (tr : Time) (reads : read_of message ≡ Reading.Message hr (Body.PDelayResp wr requester) tr) (id_r : hr.id ≡ id) (ours : p.config.identity ≡ requester) where
+module _ (p : Port) (id : ℕ) (t1 t4 : Time) (message : List ℕ) (hr : Header) (wr : WireTimestamp) (requester : Identity) (tr : Time) (reads : read_of message ≡ Ok (Received.Message hr (Body.PDelayResp wr requester) tr)) (id_r : hr.id ≡ id) (ours : p.config.identity ≡ requester) where
   came : time tr ≡ wire wr
   came = wire-time hr (Body.PDelayResp wr requester) tr message reads
 
-  abbrev none : MaybeTime
-  none = MaybeTime.None
+  abbrev none : Option Time
+  none = None
 
-  abbrev some : Time → MaybeTime
-  some t = MaybeTime.Some t
+  abbrev some : Time → Option Time
+  some t = Some t
 
-  abbrev nobody : MaybeIdentity
-  nobody = MaybeIdentity.None
+  abbrev nobody : Option Identity
+  nobody = None
 
-  abbrev by : Header → MaybeIdentity
-  by h = MaybeIdentity.Some h.source
+  abbrev by : Header → Option Identity
+  by h = Some h.source
 
-  abbrev OneGoal : Result → Type 0
+  abbrev OneGoal : Answered → Type 0
   OneGoal r = MeasuresLinkDelay p id hr.source (Pdelays.one_step (wire_fields hr wr)) (time t1) (time t4) r
 
   one_step_orders : Layout.two_step hr ≡ false → BothOrders (with_peer p (peer_requested id)) (stamp t1 (Context.PDelayReq id)) (event t4 message) OneGoal
@@ -92,7 +92,7 @@ module _ (p : Port) (id : ℕ) (t1 t4 : Time) (message : List ℕ) (hr : Header)
       }
 
   module _ (e : Event) (hf : Header) (wf : WireTimestamp) (tf : Time) (brings : Brings p.config e hf (Body.PDelayRespFollowUp wf requester) tf) (id_f : hf.id ≡ id) (one_source : hf.source ≡ hr.source) where
-    abbrev TwoGoal : Result → Type 0
+    abbrev TwoGoal : Answered → Type 0
     TwoGoal r = MeasuresLinkDelay p id hr.source (Pdelays.two_step (wire_fields hr wr) (wire_fields hf wf)) (time t1) (time t4) r
 
     left_at : (t : Time) → time t ≡ time tf +ℤ correction hf.correction → time t ≡ wire wf +ℤ correction hf.correction
@@ -130,7 +130,7 @@ module _ (p : Port) (peers : p.config.mechanism ≡ Mechanism.Peer) (draw room :
       all_delay_timer_ends (λ d. d.port ≡ q) Silent tt tt p draw (λ n e. absurd (apart cc)) (λ s e m ns. absurd (apart cc)) (λ m ns. refl)) k
 
   -- the theorems: after it, the stamp of its send and the answers of one responder, to us and with its id, each event Taken
-  module _ (t1 t4 : Time) (message : List ℕ) (hr : Header) (wr : WireTimestamp) (tr : Time) (reads : read_of message ≡ Reading.Message hr (Body.PDelayResp wr p.config.identity) tr) (id_r : hr.id ≡ p.ids.peer) where
+  module _ (t1 t4 : Time) (message : List ℕ) (hr : Header) (wr : WireTimestamp) (tr : Time) (reads : read_of message ≡ Ok (Received.Message hr (Body.PDelayResp wr p.config.identity) tr)) (id_r : hr.id ≡ p.ids.peer) where
     pub one_step_link_delay : Layout.two_step hr ≡ false → BothOrders (step p room (delay_timer draw)).port (stamp t1 (Context.PDelayReq p.ids.peer)) (event t4 message) (MeasuresLinkDelay (requesting p) p.ids.peer hr.source (Pdelays.one_step (wire_fields hr wr)) (time t1) (time t4))
     one_step_link_delay one =
         subst (λ (q : Port). BothOrders q (stamp t1 (Context.PDelayReq p.ids.peer)) (event t4 message) (MeasuresLinkDelay (requesting p) p.ids.peer hr.source (Pdelays.one_step (wire_fields hr wr)) (time t1) (time t4))) (sym peer_requested_lem)

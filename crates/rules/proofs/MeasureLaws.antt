@@ -1,9 +1,9 @@
 -- Each measurement beside 01's formula: refused with 7 exactly where a number of the formula leaves its range, and otherwise what the formula says.
-use Rattle.std.specs.Prelude.{ℕ, ◌≡◌, true, false, [], ◌∷◌, ◌-ℤ◌}
+use Rattle.std.specs.Prelude.{ℕ, ◌≡◌, true, false, [], ◌∷◌, ◌-ℤ◌, Option}
 use Rattle.std.proofs.Math.Path.{refl}
 use Rattle.std.proofs.Common.{ap}
 use Rattle.std.proofs.Math.IntN.{ℤ}
-use Rattle.rules.specs.Names.{Time, Duration, Identity, MaybeDuration, Exchange, SlaveState, PeerState, Port, Measurement}
+use Rattle.rules.specs.Names.{Time, Duration, Identity, Exchange, SlaveState, PeerState, Port, Measurement}
 use Rattle.time.specs.Units.{time, duration, half, half_of}
 use Rattle.record.specs.Record.{with_slave, with_sync, with_delay, with_peer, is_faulty}
 use Rattle.rules.specs.Worked.{worked, elapsed, less_duration}
@@ -20,7 +20,7 @@ module _ (p : Port) (s : SlaveState) (x : Exchange) (send receive : Time) where
   abbrev before : Port
   before = with_slave p s
 
-  pub sync_agrees : (S : Done → Type 0) → ((raw : Duration) (offset : MaybeDuration) → duration raw ≡ raw_sync p (time send) (time receive) → GivenBy p.mean (λ mean. raw_sync p (time send) (time receive) -ℤ mean) offset → S (measured (sync_out p s raw) (Measurement.Sync receive raw offset) false)) → Agrees (numbers_of before (sync (time send) (time receive))) S (measure_sync (with_slave p (with_sync s x)) (with_sync s x) send receive)
+  pub sync_agrees : (S : Done → Type 0) → ((raw : Duration) (offset : Option Duration) → duration raw ≡ raw_sync p (time send) (time receive) → GivenBy p.mean (λ mean. raw_sync p (time send) (time receive) -ℤ mean) offset → S (measured (sync_out p s raw) (Measurement.Sync receive raw offset) false)) → Agrees (numbers_of before (sync (time send) (time receive))) S (measure_sync (with_slave p (with_sync s x)) (with_sync s x) send receive)
   unfolding measure_sync elapsed less_duration
   sync_agrees S f =
       let a : ℤ = time receive -ℤ time send in
@@ -34,7 +34,7 @@ module _ (p : Port) (s : SlaveState) (x : Exchange) (send receive : Time) where
       sync_agrees (λ d. Says before (sync (time send) (time receive)) d.measurement d.port) (λ raw o i g.
       record { event_time = refl; raw_is = i; offset_is = g; raw_kept = refl; taken_out = refl })
 
-  pub delay_agrees : (S : Done → Type 0) → ((raw : Duration) (d : MaybeDuration) → duration raw ≡ raw_delay p (time send) (time receive) → GivenBy s.raw (λ last. half (last -ℤ raw_delay p (time send) (time receive))) d → S (measured (delay_out p s) (Measurement.Delay send raw d) false)) → Agrees (numbers_of before (delay (time send) (time receive))) S (measure_delay (with_slave p (with_delay s x)) (with_delay s x) send receive)
+  pub delay_agrees : (S : Done → Type 0) → ((raw : Duration) (d : Option Duration) → duration raw ≡ raw_delay p (time send) (time receive) → GivenBy s.raw (λ last. half (last -ℤ raw_delay p (time send) (time receive))) d → S (measured (delay_out p s) (Measurement.Delay send raw d) false)) → Agrees (numbers_of before (delay (time send) (time receive))) S (measure_delay (with_slave p (with_delay s x)) (with_delay s x) send receive)
   unfolding measure_delay elapsed less_duration
   delay_agrees S f =
       let a : ℤ = time send -ℤ time receive in

@@ -1,9 +1,9 @@
 -- The peer answers and the stamp of a PDelayReq beside the numbers of `WorkedOut`.
-use Rattle.std.specs.Prelude.{ℕ, ◌≡◌, refl, ◌&&◌, [], eqb, ◌+ℤ◌, ◌-ℤ◌}
+use Rattle.std.specs.Prelude.{ℕ, ◌≡◌, refl, ◌&&◌, [], eqb, ◌+ℤ◌, ◌-ℤ◌, Option, Some, None}
 use Rattle.std.proofs.Common.{sym, subst, eq-eqb}
 use Rattle.std.proofs.Math.Bool.{Bool, true, false, cond, not}
 use Rattle.std.proofs.Math.IntN.{ℤ}
-use Rattle.rules.specs.Names.{Time, Header, Identity, MaybeTime, MaybeIdentity, PeerState, Context, Port}
+use Rattle.rules.specs.Names.{Time, Header, Identity, PeerState, Context, Port}
 use Rattle.time.specs.Units.{time, time_of, correction}
 use Rattle.wire.specs.Layout.{two_step}
 use Rattle.octets.proofs.BytesLaws.{apart}
@@ -26,9 +26,9 @@ pub second_same : (h : Header) (q : PeerState) → second_responder h q ≡ diff
 unfolding second_responder
 second_same h PeerState.Empty = refl
 second_same h (PeerState.Measuring k w a b c d) =
-    by_test (λ t x. t && differs w h.source ≡ differs x h.source) (eqb k h.id) w MaybeIdentity.None refl refl
+    by_test (λ t x. t && differs w h.source ≡ differs x h.source) (eqb k h.id) w None refl refl
 second_same h (PeerState.Measured k w) =
-    by_test (λ t x. t && differs (MaybeIdentity.Some w) h.source ≡ differs x h.source) (eqb k h.id) (MaybeIdentity.Some w) MaybeIdentity.None refl refl
+    by_test (λ t x. t && differs (Some w) h.source ≡ differs x h.source) (eqb k h.id) (Some w) None refl refl
 
 -- the exchange is q; no other is complete
 module _ (p : Port) (n : slave_full p.state ≡ false) (q : PeerState) where
@@ -56,35 +56,35 @@ module _ (p : Port) (n : slave_full p.state ≡ false) (q : PeerState) where
 
 module _ (p : Port) (n : slave_full p.state ≡ false) (k : ℕ) where
   -- all four times are there
-  all_four : (q : PeerState) → peer_opened k q ≡ true → (w : Identity) (t1 t2 t3 t4 : Time) → JudgedStored p n q (peer (time t1) (time t2) (time t3) (time t4)) (PeerState.Measuring k (MaybeIdentity.Some w) (MaybeTime.Some t1) (MaybeTime.Some t2) (MaybeTime.Some t3) (MaybeTime.Some t4))
+  all_four : (q : PeerState) → peer_opened k q ≡ true → (w : Identity) (t1 t2 t3 t4 : Time) → JudgedStored p n q (peer (time t1) (time t2) (time t3) (time t4)) (PeerState.Measuring k (Some w) (Some t1) (Some t2) (Some t3) (Some t4))
   all_four q o w t1 t2 t3 t4 =
-      peer_judged (with_peer p q) (PeerState.Measuring k (MaybeIdentity.Some w) (MaybeTime.Some t1) (MaybeTime.Some t2) (MaybeTime.Some t3) (MaybeTime.Some t4)) k w t1 t2 t3 t4 o
+      peer_judged (with_peer p q) (PeerState.Measuring k (Some w) (Some t1) (Some t2) (Some t3) (Some t4)) k w t1 t2 t3 t4 o
 
   -- the request's send was missing
-  asked : (w : MaybeIdentity) (b c d : MaybeTime) → unanswered (PeerState.Measuring k w MaybeTime.None b c d) ≡ false → (t : Time) → JudgedStored p n (PeerState.Measuring k w MaybeTime.None b c d) (held b (λ came. held c (λ send. held d (λ receive. peer (time t) came send receive)))) (PeerState.Measuring k w (MaybeTime.Some t) b c d)
-  asked w MaybeTime.None c d u t = (refl, tt)
-  asked w (MaybeTime.Some b) MaybeTime.None d u t = (refl, tt)
-  asked w (MaybeTime.Some b) (MaybeTime.Some c) MaybeTime.None u t = (refl, tt)
-  asked MaybeIdentity.None (MaybeTime.Some b) (MaybeTime.Some c) (MaybeTime.Some d) u t = absurd (apart cc)
-  asked (MaybeIdentity.Some w) (MaybeTime.Some b) (MaybeTime.Some c) (MaybeTime.Some d) u t =
-      all_four (PeerState.Measuring k (MaybeIdentity.Some w) MaybeTime.None (MaybeTime.Some b) (MaybeTime.Some c) (MaybeTime.Some d)) (eq-eqb k k refl) w t b c d
+  asked : (w : Option Identity) (b c d : Option Time) → unanswered (PeerState.Measuring k w None b c d) ≡ false → (t : Time) → JudgedStored p n (PeerState.Measuring k w None b c d) (held b (λ came. held c (λ send. held d (λ receive. peer (time t) came send receive)))) (PeerState.Measuring k w (Some t) b c d)
+  asked w None c d u t = (refl, tt)
+  asked w (Some b) None d u t = (refl, tt)
+  asked w (Some b) (Some c) None u t = (refl, tt)
+  asked None (Some b) (Some c) (Some d) u t = absurd (apart cc)
+  asked (Some w) (Some b) (Some c) (Some d) u t =
+      all_four (PeerState.Measuring k (Some w) None (Some b) (Some c) (Some d)) (eq-eqb k k refl) w t b c d
 
   -- the response was missing; it brings the request's receive time, and one-step the response's send time
-  answered : (w : MaybeIdentity) (i : Identity) (a b c : MaybeTime) (body t : Time) (two : Bool) → JudgedStored p n (PeerState.Measuring k w a b c MaybeTime.None) (held a (λ from. cond two (held c (λ send. peer from (time body) send (time t))) (peer from (time body) (time body) (time t)))) (PeerState.Measuring k (MaybeIdentity.Some i) a (MaybeTime.Some body) (cond two c (MaybeTime.Some body)) (MaybeTime.Some t))
-  answered w i MaybeTime.None b c body t two = (refl, tt)
-  answered w i (MaybeTime.Some a) b MaybeTime.None body t true = (refl, tt)
-  answered w i (MaybeTime.Some a) b (MaybeTime.Some c) body t true =
-      all_four (PeerState.Measuring k w (MaybeTime.Some a) b (MaybeTime.Some c) MaybeTime.None) (eq-eqb k k refl) i a body c t
-  answered w i (MaybeTime.Some a) b c body t false =
-      all_four (PeerState.Measuring k w (MaybeTime.Some a) b c MaybeTime.None) (eq-eqb k k refl) i a body body t
+  answered : (w : Option Identity) (i : Identity) (a b c : Option Time) (body t : Time) (two : Bool) → JudgedStored p n (PeerState.Measuring k w a b c None) (held a (λ from. cond two (held c (λ send. peer from (time body) send (time t))) (peer from (time body) (time body) (time t)))) (PeerState.Measuring k (Some i) a (Some body) (cond two c (Some body)) (Some t))
+  answered w i None b c body t two = (refl, tt)
+  answered w i (Some a) b None body t true = (refl, tt)
+  answered w i (Some a) b (Some c) body t true =
+      all_four (PeerState.Measuring k w (Some a) b (Some c) None) (eq-eqb k k refl) i a body c t
+  answered w i (Some a) b c body t false =
+      all_four (PeerState.Measuring k w (Some a) b c None) (eq-eqb k k refl) i a body body t
 
   -- the follow-up was missing
-  followed : (w : MaybeIdentity) (i : Identity) (a b d : MaybeTime) (t : Time) → JudgedStored p n (PeerState.Measuring k w a b MaybeTime.None d) (held a (λ from. held b (λ came. held d (λ receive. peer from came (time t) receive)))) (PeerState.Measuring k (MaybeIdentity.Some i) a b (MaybeTime.Some t) d)
-  followed w i MaybeTime.None b d t = (refl, tt)
-  followed w i (MaybeTime.Some a) MaybeTime.None d t = (refl, tt)
-  followed w i (MaybeTime.Some a) (MaybeTime.Some b) MaybeTime.None t = (refl, tt)
-  followed w i (MaybeTime.Some a) (MaybeTime.Some b) (MaybeTime.Some d) t =
-      all_four (PeerState.Measuring k w (MaybeTime.Some a) (MaybeTime.Some b) MaybeTime.None (MaybeTime.Some d)) (eq-eqb k k refl) i a b t d
+  followed : (w : Option Identity) (i : Identity) (a b d : Option Time) (t : Time) → JudgedStored p n (PeerState.Measuring k w a b None d) (held a (λ from. held b (λ came. held d (λ receive. peer from came (time t) receive)))) (PeerState.Measuring k (Some i) a b (Some t) d)
+  followed w i None b d t = (refl, tt)
+  followed w i (Some a) None d t = (refl, tt)
+  followed w i (Some a) (Some b) None t = (refl, tt)
+  followed w i (Some a) (Some b) (Some d) t =
+      all_four (PeerState.Measuring k w (Some a) (Some b) None (Some d)) (eq-eqb k k refl) i a b t d
 
 -- ---- the rules
 
@@ -93,14 +93,14 @@ module _ (p : Port) (n : slave_full p.state ≡ false) where
   unfolding stamped peer_stamped
   peer_stamp_sums_lem PeerState.Empty u id t = (refl, tt)
   peer_stamp_sums_lem (PeerState.Measured k w) u id t = (refl, tt)
-  peer_stamp_sums_lem (PeerState.Measuring k w (MaybeTime.Some a) b c d) u id t =
-      let q : PeerState = PeerState.Measuring k w (MaybeTime.Some a) b c d in
+  peer_stamp_sums_lem (PeerState.Measuring k w (Some a) b c d) u id t =
+      let q : PeerState = PeerState.Measuring k w (Some a) b c d in
       by_test (λ o x. SumsJudged (with_peer p q) (cond (o && false) (record { numbers = []; completes = held b (λ came. held c (λ send. held d (λ receive. peer (time t) came send receive))) }) no_sums) (keeping (with_peer p q) (with_peer (with_peer p q)) x)) (eqb k id) stays stays
       (refl, tt)
       (refl, tt)
-  peer_stamp_sums_lem (PeerState.Measuring k w MaybeTime.None b c d) u id t =
-      let q : PeerState = PeerState.Measuring k w MaybeTime.None b c d in
-      let x : PeerState = PeerState.Measuring k w (MaybeTime.Some t) b c d in
+  peer_stamp_sums_lem (PeerState.Measuring k w None b c d) u id t =
+      let q : PeerState = PeerState.Measuring k w None b c d in
+      let x : PeerState = PeerState.Measuring k w (Some t) b c d in
       let e : Completed = held b (λ came. held c (λ send. held d (λ receive. peer (time t) came send receive))) in
       by_test (λ o x. SumsJudged (with_peer p q) (cond (o && true) (record { numbers = []; completes = e }) no_sums) (keeping (with_peer p q) (with_peer (with_peer p q)) x)) (eqb k id) (becomes x) stays
       (stored p n q x e (asked p n k w b c d u t))
@@ -133,13 +133,13 @@ module _ (p : Port) (n : slave_full p.state ≡ false) where
     unfolding p_delay_resp less_correction responded
     pdelay_resp_sums PeerState.Empty body at = answer_judged p n PeerState.Empty h requester (worked stays) false _ _ (refl, tt)
     pdelay_resp_sums (PeerState.Measured k w) body at = answer_judged p n (PeerState.Measured k w) h requester (worked stays) false _ _ (refl, tt)
-    pdelay_resp_sums (PeerState.Measuring k w a b c (MaybeTime.Some d)) body at =
-        let q : PeerState = PeerState.Measuring k w a b c (MaybeTime.Some d) in
+    pdelay_resp_sums (PeerState.Measuring k w a b c (Some d)) body at =
+        let q : PeerState = PeerState.Measuring k w a b c (Some d) in
         answer_judged p n q h requester _ (eqb k h.id) false _ (idle q (eqb k h.id) _)
-    pdelay_resp_sums (PeerState.Measuring k w a b c MaybeTime.None) body at =
-        let q : PeerState = PeerState.Measuring k w a b c MaybeTime.None in
+    pdelay_resp_sums (PeerState.Measuring k w a b c None) body at =
+        let q : PeerState = PeerState.Measuring k w a b c None in
         let e : ℤ → Completed = λ z. held a (λ from. cond (two_step h) (held c (λ send. peer from (time body) send z)) (peer from (time body) (time body) z)) in
-        let x : Time → PeerState = λ t. PeerState.Measuring k (MaybeIdentity.Some h.source) a (MaybeTime.Some body) (cond (two_step h) c (MaybeTime.Some body)) (MaybeTime.Some t) in
+        let x : Time → PeerState = λ t. PeerState.Measuring k (Some h.source) a (Some body) (cond (two_step h) c (Some body)) (Some t) in
         answer_judged p n q h requester _ (eqb k h.id) true _
         (awaited q (eqb k h.id) (time at -ℤ correction h.correction) e x (λ t. answered p n k w h.source a b c body t (two_step h)))
 
@@ -147,12 +147,12 @@ module _ (p : Port) (n : slave_full p.state ≡ false) where
     unfolding p_delay_resp_follow_up plus_correction responded_later
     pdelay_resp_follow_up_sums PeerState.Empty timestamp = answer_judged p n PeerState.Empty h requester (worked stays) false _ _ (refl, tt)
     pdelay_resp_follow_up_sums (PeerState.Measured k w) timestamp = answer_judged p n (PeerState.Measured k w) h requester (worked stays) false _ _ (refl, tt)
-    pdelay_resp_follow_up_sums (PeerState.Measuring k w a b (MaybeTime.Some c) d) timestamp =
-        let q : PeerState = PeerState.Measuring k w a b (MaybeTime.Some c) d in
+    pdelay_resp_follow_up_sums (PeerState.Measuring k w a b (Some c) d) timestamp =
+        let q : PeerState = PeerState.Measuring k w a b (Some c) d in
         answer_judged p n q h requester _ (eqb k h.id) false _ (idle q (eqb k h.id) _)
-    pdelay_resp_follow_up_sums (PeerState.Measuring k w a b MaybeTime.None d) timestamp =
-        let q : PeerState = PeerState.Measuring k w a b MaybeTime.None d in
+    pdelay_resp_follow_up_sums (PeerState.Measuring k w a b None d) timestamp =
+        let q : PeerState = PeerState.Measuring k w a b None d in
         let e : ℤ → Completed = λ z. held a (λ from. held b (λ came. held d (λ receive. peer from came z receive))) in
-        let x : Time → PeerState = λ t. PeerState.Measuring k (MaybeIdentity.Some h.source) a b (MaybeTime.Some t) d in
+        let x : Time → PeerState = λ t. PeerState.Measuring k (Some h.source) a b (Some t) d in
         answer_judged p n q h requester _ (eqb k h.id) true _
         (awaited q (eqb k h.id) (time timestamp +ℤ correction h.correction) e x (λ t. followed p n k w h.source a b d t))

@@ -6,7 +6,7 @@ use Rattle.octets.proofs.BytesLaws.{apart}
 use Rattle.rules.specs.Names.{Port, Outcome}
 use Rattle.fitness.specs.Fit.{unfit}
 use Rattle.rules.specs.Worked.{Worked, worked, refused}
-use Rattle.rules.specs.Events.{Event, Done, Result, answered, refusal}
+use Rattle.rules.specs.Events.{Event, Done, Answered, answered, refusal}
 use Rattle.record.specs.Record.{with_sync, with_delay, with_slave, with_peer}
 use Rattle.rules.specs.Measuring.{settle}
 use Rattle.rules.specs.Rules.{filtered, state_set}
@@ -107,17 +107,17 @@ module _ (p : Port) (room : ℕ) (e : Event) where
   taken_is t = by_rows (row1 p.config e room) (unfit p) (row3 e) refl refl refl t
 
   -- what the rule's every ending has behind rows 2 and 3, a taken event's answer has
-  pub taken_has : (Q : Result → Type 0) → (unfit p ≡ false → row3 e ≡ false → All (λ d. Q (answered p (worked d))) (rule_of p e)) → (step p room e).outcome ≡ Outcome.Taken → Q (step p room e)
+  pub taken_has : (Q : Answered → Type 0) → (unfit p ≡ false → row3 e ≡ false → All (λ d. Q (answered p (worked d))) (rule_of p e)) → (step p room e).outcome ≡ Outcome.Taken → Q (step p room e)
   taken_has Q f t =
       let k : IsTaken p room e = taken_is t in
       subst Q (sym k.result) (all_is (λ d. Q (answered p (worked d))) Silent (rule_of p e) k.done k.rule (f k.fit k.limits))
 
   -- and what every refusal has besides, any answer has
-  answered_has : (Q : Result → Type 0) (w : Worked Done) → Comes (λ d. Q (answered p (worked d))) (λ o. Q (refusal o p)) w → Q (answered p w)
+  answered_has : (Q : Answered → Type 0) (w : Worked Done) → Comes (λ d. Q (answered p (worked d))) (λ o. Q (refusal o p)) w → Q (answered p w)
   answered_has Q (worked d) k = k
   answered_has Q (refused o) k = k
 
-  pub step_has : (Q : Result → Type 0) → ((o : Outcome) → Q (refusal o p)) → (unfit p ≡ false → row3 e ≡ false → All (λ d. Q (answered p (worked d))) (rule_of p e)) → Q (step p room e)
+  pub step_has : (Q : Answered → Type 0) → ((o : Outcome) → Q (refusal o p)) → (unfit p ≡ false → row3 e ≡ false → All (λ d. Q (answered p (worked d))) (rule_of p e)) → Q (step p room e)
   unfolding step
   step_has Q r f =
       let P : Done → Type 0 = λ d. Q (answered p (worked d)) in

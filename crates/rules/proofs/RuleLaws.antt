@@ -1,8 +1,8 @@
 -- What each rule can come to: a property that holds of every ending of a rule holds of what the rule gives. Each law hands on the equations that its rule's tests leave.
-use Rattle.std.specs.Prelude.{◌≡◌, refl, Bool, true, false, eqb, [], ℕ}
+use Rattle.std.specs.Prelude.{◌≡◌, refl, Bool, true, false, eqb, [], ℕ, Option, Some, None, Ok}
 use Rattle.std.proofs.Math.Path.{ap}
 use Rattle.std.proofs.Common.{◌∙◌}
-use Rattle.rules.specs.Names.{Time, Duration, Header, Identity, Message, MessageAnswer, TimerAnswer, MaybeTime, MaybeIdentity, MaybeDuration, Measurement, Exchange, SlaveState, PortState, PeerState, Port, Mechanism, Context, Action, Outcome}
+use Rattle.rules.specs.Names.{Time, Duration, Header, Identity, Message, Measurement, Exchange, SlaveState, PortState, PeerState, Port, Mechanism, Context, Action, Outcome}
 use Rattle.time.specs.Units.{half_of}
 use Rattle.timers.specs.Timers.{sync_timer_of, delay_timer_of}
 use Rattle.sent.specs.Messages.{follow_up_of, delay_resp_of, p_delay_resp_of, p_delay_resp_follow_up_of}
@@ -20,23 +20,23 @@ use Rattle.rules.specs.RuleLaws.{PeerEnds}
 -- ---- the measurements
 
 module _ (R : Outcome → Type 0) (range : R Outcome.Range) where
-  all_less_mean : (raw : Duration) (mean : MaybeDuration) → Comes Anything R (less_mean raw mean)
-  all_less_mean raw MaybeDuration.None = tt
-  all_less_mean raw (MaybeDuration.Some mean) = all_then Anything R (less_duration raw mean) _ (all_less R range raw mean) (λ d e. tt)
+  all_less_mean : (raw : Duration) (mean : Option Duration) → Comes Anything R (less_mean raw mean)
+  all_less_mean raw None = tt
+  all_less_mean raw (Some mean) = all_then Anything R (less_duration raw mean) _ (all_less R range raw mean) (λ d e. tt)
 
-  all_half_below : (last : MaybeDuration) (raw : Duration) → Comes Anything R (half_below last raw)
-  all_half_below MaybeDuration.None raw = tt
-  all_half_below (MaybeDuration.Some last) raw = all_then Anything R (less_duration last raw) _ (all_less R range last raw) (λ d e. tt)
+  all_half_below : (last : Option Duration) (raw : Duration) → Comes Anything R (half_below last raw)
+  all_half_below None raw = tt
+  all_half_below (Some last) raw = all_then Anything R (less_duration last raw) _ (all_less R range last raw) (λ d e. tt)
 
 module _ (P : Done → Type 0) (R : Outcome → Type 0) (range : R Outcome.Range) where
-  pub all_measure_sync : (p : Port) (s : SlaveState) (send receive : Time) → ((raw : Duration) (offset : MaybeDuration) → P (measured (sync_out p s raw) (Measurement.Sync receive raw offset) false)) → Comes P R (measure_sync p s send receive)
+  pub all_measure_sync : (p : Port) (s : SlaveState) (send receive : Time) → ((raw : Duration) (offset : Option Duration) → P (measured (sync_out p s raw) (Measurement.Sync receive raw offset) false)) → Comes P R (measure_sync p s send receive)
   unfolding measure_sync
   all_measure_sync p s send receive f =
       all_then P R (elapsed receive send) _ (all_between R range receive send) (λ apart e.
       all_then P R (less_duration apart p.config.asymmetry) _ (all_less R range apart p.config.asymmetry) (λ raw g.
       all_then P R (less_mean raw p.mean) _ (all_less_mean R range raw p.mean) (λ offset k. f raw offset)))
 
-  pub all_measure_delay : (p : Port) (s : SlaveState) (send receive : Time) → ((raw : Duration) (delay : MaybeDuration) → P (measured (delay_out p s) (Measurement.Delay send raw delay) false)) → Comes P R (measure_delay p s send receive)
+  pub all_measure_delay : (p : Port) (s : SlaveState) (send receive : Time) → ((raw : Duration) (delay : Option Duration) → P (measured (delay_out p s) (Measurement.Delay send raw delay) false)) → Comes P R (measure_delay p s send receive)
   unfolding measure_delay
   all_measure_delay p s send receive f =
       all_then P R (elapsed send receive) _ (all_between R range send receive) (λ apart e.
@@ -69,14 +69,14 @@ module _ (P : Done → Type 0) (R : Outcome → Type 0) (range : R Outcome.Range
 
 -- a sum is worked out only where its exchange is open and its place empty
 module _ (R : Outcome → Type 0) (sum : Worked Time) (s : Comes Anything R sum) where
-  all_waited : {X : Type 0} (is_open : Bool) (place : MaybeTime) (put : Time → X) → Comes Anything R (awaited is_open place sum put)
+  all_waited : {X : Type 0} (is_open : Bool) (place : Option Time) (put : Time → X) → Comes Anything R (awaited is_open place sum put)
   all_waited is_open place put = all_awaited Anything R is_open place sum put s (λ e. tt) (λ t e g. tt)
 
   all_delay_answered : (id : ℕ) (x : Exchange) → Comes Anything R (delay_answered id sum x)
   unfolding delay_answered
   all_delay_answered id Exchange.Empty = tt
   all_delay_answered id (Exchange.Measuring held send receive) =
-      all_waited (eqb held id) receive (λ t. Exchange.Measuring held send (MaybeTime.Some t))
+      all_waited (eqb held id) receive (λ t. Exchange.Measuring held send (Some t))
 
   all_responded : (h : Header) (body : Time) (q : PeerState) → Comes Anything R (responded h body sum q)
   unfolding responded
@@ -89,7 +89,7 @@ module _ (R : Outcome → Type 0) (sum : Worked Time) (s : Comes Anything R sum)
   unfolding responded_later
   all_responded_later h PeerState.Empty = tt
   all_responded_later h (PeerState.Measuring held r a b c d) =
-      all_waited (eqb held h.id) c (λ t. PeerState.Measuring held (MaybeIdentity.Some h.source) a b (MaybeTime.Some t) d)
+      all_waited (eqb held h.id) c (λ t. PeerState.Measuring held (Some h.source) a b (Some t) d)
   all_responded_later h (PeerState.Measured held r) = tt
 
 -- ---- received messages
@@ -145,20 +145,20 @@ module _ (P : Done → Type 0) (R : Outcome → Type 0) (range : R Outcome.Range
   all_p_delay_resp_follow_up h requester timestamp ends =
       all_peer_answer h requester (responded_later h (plus_correction timestamp h) p.peer) (all_responded_later R (plus_correction timestamp h) (all_plus_correction R range timestamp h) h p.peer) ends
 
-  pub all_delay_req : (h : Header) (at : Time) → P (changed p false) → ((m : Message) → delay_resp_of (sender_of p.config) h p.config.delay_interval at ≡ MessageAnswer.Value m → P (sending p [] m (Action.SendGeneral false))) → Comes P R (delay_req p h at)
+  pub all_delay_req : (h : Header) (at : Time) → P (changed p false) → ((m : Message) → delay_resp_of (sender_of p.config) h p.config.delay_interval at ≡ Ok m → P (sending p [] m (Action.SendGeneral false))) → Comes P R (delay_req p h at)
   unfolding delay_req
   all_delay_req h at idle f =
       all_cond P R (is_master p.state) _ (nothing p)
       (λ e. all_sent P R range (delay_resp_of (sender_of p.config) h p.config.delay_interval at) _ f)
       (λ e. idle)
 
-  pub all_p_delay_req : (h : Header) (at : Time) → ((m : Message) → p_delay_resp_of (sender_of p.config) h at ≡ MessageAnswer.Value m → P (sending p [] m (Action.SendEvent (Context.PDelayResp h.id h.source) true))) → Comes P R (p_delay_req p h at)
+  pub all_p_delay_req : (h : Header) (at : Time) → ((m : Message) → p_delay_resp_of (sender_of p.config) h at ≡ Ok m → P (sending p [] m (Action.SendEvent (Context.PDelayResp h.id h.source) true))) → Comes P R (p_delay_req p h at)
   unfolding p_delay_req
   all_p_delay_req h at f =
       all_sent P R range (p_delay_resp_of (sender_of p.config) h at) _ f
 
   -- ---- send stamps
-  pub all_sync_stamped : (t : Time) (id : ℕ) → P (changed p false) → ((m : Message) → follow_up_of (sender_of p.config) id p.config.sync_interval t ≡ MessageAnswer.Value m → P (sending p [] m (Action.SendGeneral false))) → Comes P R (stamped p t (Context.Sync id))
+  pub all_sync_stamped : (t : Time) (id : ℕ) → P (changed p false) → ((m : Message) → follow_up_of (sender_of p.config) id p.config.sync_interval t ≡ Ok m → P (sending p [] m (Action.SendGeneral false))) → Comes P R (stamped p t (Context.Sync id))
   unfolding stamped
   all_sync_stamped t id idle f =
       all_cond P R (is_master p.state) _ (nothing p)
@@ -175,7 +175,7 @@ module _ (P : Done → Type 0) (R : Outcome → Type 0) (range : R Outcome.Range
   unfolding stamped
   all_peer_stamped t id idle f = all_kept P R p (with_peer p) (peer_stamped id t p.peer) idle f
 
-  pub all_response_stamped : (t : Time) (id : ℕ) (requester : Identity) → ((m : Message) → p_delay_resp_follow_up_of (sender_of p.config) id requester t ≡ MessageAnswer.Value m → P (sending p [] m (Action.SendGeneral true))) → Comes P R (stamped p t (Context.PDelayResp id requester))
+  pub all_response_stamped : (t : Time) (id : ℕ) (requester : Identity) → ((m : Message) → p_delay_resp_follow_up_of (sender_of p.config) id requester t ≡ Ok m → P (sending p [] m (Action.SendGeneral true))) → Comes P R (stamped p t (Context.PDelayResp id requester))
   unfolding stamped
   all_response_stamped t id requester f =
       all_sent P R range (p_delay_resp_follow_up_of (sender_of p.config) id requester t) _ f
@@ -183,7 +183,7 @@ module _ (P : Done → Type 0) (R : Outcome → Type 0) (range : R Outcome.Range
 -- ---- timers: where rows 2 and 3 have not refused, they cannot
 
 module _ (P : Done → Type 0) (R : Outcome → Type 0) (unfit : R Outcome.Unfit) (limits : R Outcome.Limits) where
-  pub all_sync_timer_ends : (p : Port) → (is_master p.state ≡ false → P (changed p false)) → (is_master p.state ≡ true → (ns : ℕ) → sync_timer_of p.config.sync_interval ≡ TimerAnswer.Value ns → P (sync_sent p ns)) → Comes P R (sync_timer_ends p)
+  pub all_sync_timer_ends : (p : Port) → (is_master p.state ≡ false → P (changed p false)) → (is_master p.state ≡ true → (ns : ℕ) → sync_timer_of p.config.sync_interval ≡ Ok ns → P (sync_sent p ns)) → Comes P R (sync_timer_ends p)
   unfolding sync_timer_ends
   all_sync_timer_ends p idle f =
       all_cond P R (is_master p.state) _ (nothing p) (λ e. all_timed P R unfit limits (sync_timer_of p.config.sync_interval) _ (f e)) idle

@@ -8,7 +8,7 @@ use Rattle.record.specs.Record.{with_slave, with_sync, with_delay, with_peer}
 use Rattle.fitness.specs.Fit.{full}
 use Rattle.rules.specs.Names.{Time, Header, Exchange, SlaveState, PeerState, Port}
 use Rattle.rules.specs.Worked.{Worked, worked, ◌then◌, less_correction, plus_correction}
-use Rattle.rules.specs.Events.{Event, Done, Result, answered, nothing}
+use Rattle.rules.specs.Events.{Event, Done, Answered, answered, nothing}
 use Rattle.rules.specs.Measuring.{complete, peer_complete, measure_sync, measure_delay, measure_peer, settle}
 use Rattle.rules.specs.Step.{rule_of, step}
 use Rattle.rules.specs.AllLaws.{All, Silent}
@@ -75,7 +75,7 @@ module _ {X : Type 0} (k : Part X) where
   opens : {x : X} {e : Event} {z : ℤ} {new : Time → X} → Turns k x e z new → Opened new → (G : Port → Type 0) → ((t : Time) → time t ≡ z → G (k.store (new t))) → (room : ℕ) → Taken (step (k.store x) room e) → G (step (k.store x) room e).port
   opens first open₁ G g = first.has (λ r. G r.port) (λ t w. subst (All (λ d. G d.port)) (sym (open₁ t)) (g t w))
 
-  module _ (Goal : Result → Type 0) where
+  module _ (Goal : Answered → Type 0) where
     abbrev Ends : X → Type 0
     Ends x = All (λ d. Goal (answered (k.store x) (worked d))) (k.measure x)
 

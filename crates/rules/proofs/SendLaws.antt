@@ -1,5 +1,5 @@
 -- The messages that carry a stamp beside their sent fields: nothing is made exactly where the seconds leave 48 bits or the correction 64.
-use Rattle.std.specs.Prelude.{ℕ, ◌-◌, ◌/◌, ◌^◌, ◌<◌, ◌≤◌, ◌≡◌, refl, Bool, true, cond, ◌⊎◌, List, [], ◌∷◌, ltb, pos}
+use Rattle.std.specs.Prelude.{ℕ, ◌-◌, ◌/◌, ◌^◌, ◌<◌, ◌≤◌, ◌≡◌, refl, Bool, true, cond, ◌⊎◌, List, [], ◌∷◌, ltb, pos, Result, Ok, Err}
 use Rattle.std.proofs.Math.Path.{sym}
 use Rattle.std.proofs.Common.{◌∙◌, ap, inl, inr, append-nil, arith}
 use Rattle.std.proofs.Math.Bool.{false}
@@ -7,10 +7,9 @@ use Rattle.std.proofs.lemmas.Bool.{false≢true}
 use Rattle.std.proofs.Math.Decide.{dec_lt}
 use Rattle.std.proofs.Math.Dec.{leb-zero, leb-suc-suc}
 use borrow.Author.Tests.{lt-ltb, le-ltb}
-use Rattle.rules.specs.Names.{Time, WireTimestamp, Identity, Header, Message, Port, Action, Context}
+use Rattle.rules.specs.Names.{Time, WireTimestamp, Identity, Header, Message, Port, Action, Context, TimeError}
 use Rattle.time.specs.Units.{time}
 use Rattle.time.specs.Lemmas.Integers.{not_below}
-use Rattle.sent.specs.declared.Carried.{Carried}
 use Rattle.sent.specs.Messages.{in_correction, follow_stamp, answer_stamp, carrying, follow_up_of, delay_resp_of, p_delay_resp_of, p_delay_resp_follow_up_of}
 use Rattle.sent.specs.CarriedLaws.{units_of, late_from, less_of}
 use Rattle.sent.proofs.CarriedLaws.{follow_out_when, follow_out_is, answer_out_when, answer_out_is}
@@ -47,20 +46,20 @@ module _ (t : Time) (ns : List Number) where
 -- ---- what is carried: nothing exactly where a field is out of range
 
 -- from both directions of a law
-carries : (ns : List Number) (x : Carried) → ((outside ns ≡ true → x ≡ Carried.Out)) → (x ≡ Carried.Out → outside ns ≡ true) → Carries ns x
-carries ns (Carried.Value w c) f g = go (outside ns) refl
+carries : (ns : List Number) (x : Result (WireTimestamp × ℕ) TimeError) → ((outside ns ≡ true → x ≡ Err TimeError.OutOfRange)) → (x ≡ Err TimeError.OutOfRange → outside ns ≡ true) → Carries ns x
+carries ns (Ok (w, c)) f g = go (outside ns) refl
   where
     go : (b : Bool) → outside ns ≡ b → outside ns ≡ false
     go true e =
-        let x : Carried.Value w c ≡ Carried.Out = f e in
+        let x : ◌≡◌ {A = Result (WireTimestamp × ℕ) TimeError} (Ok (w, c)) (Err TimeError.OutOfRange) = f e in
         absurd (apart cc)
     go false e = e
-carries ns Carried.Out f g = g refl
+carries ns (Err TimeError.OutOfRange) f g = g refl
 
 pub follow_carries : (t : Time) → Carries (seconds_of t ∷ []) (follow_stamp t)
 follow_carries t = carries (seconds_of t ∷ []) (follow_stamp t) (λ e. go e (dec_lt (units_of t) late_from)) (λ e. late t [] (follow_out_is t e))
   where
-    go : outside (seconds_of t ∷ []) ≡ true → Dec (units_of t < late_from) → follow_stamp t ≡ Carried.Out
+    go : outside (seconds_of t ∷ []) ≡ true → Dec (units_of t < late_from) → follow_stamp t ≡ Err TimeError.OutOfRange
     go e (yes h) =
         let x : false ≡ true = sym (timely t [] h) ∙ e in
         absurd (false≢true x)
@@ -78,7 +77,7 @@ module _ (h : Header) (t : Time) where
   unfolding time
   no_room e = failed (in_correction (less_of h.correction t)) false e
 
-  too_late_lem : outside fields ≡ true → Dec (units_of t < late_from) → (b : Bool) → in_correction (less_of h.correction t) ≡ b → answer_stamp h.correction t ≡ Carried.Out
+  too_late_lem : outside fields ≡ true → Dec (units_of t < late_from) → (b : Bool) → in_correction (less_of h.correction t) ≡ b → answer_stamp h.correction t ≡ Err TimeError.OutOfRange
   too_late_lem e (no k) b i = answer_out_when h.correction t (inl (not_below (units_of t) late_from k))
   too_late_lem e (yes k) false i = answer_out_when h.correction t (inr i)
   too_late_lem e (yes k) true i = absurd (false≢true (sym (timely t (less_f h t ∷ []) k ∙ room_for i) ∙ e))
@@ -97,9 +96,9 @@ module _ (h : Header) (t : Time) where
 -- ---- the rules
 
 -- a message that carries a stamp, sent by a rule
-pub sent_judged : (p : Port) (ns : List Number) (x : Carried) (message : WireTimestamp → ℕ → Message) (a : Action) → Carries ns x → SumsJudged p (sent_fields ns) (a_message (carrying x message) then λ m. worked (sending p [] m a))
-sent_judged p ns (Carried.Value w c) message a e = (ap (λ (l : List Number). outside l) (append-nil ns) ∙ e, tt)
-sent_judged p ns Carried.Out message a e = (refl, ap (λ (l : List Number). outside l) (append-nil ns) ∙ e)
+pub sent_judged : (p : Port) (ns : List Number) (x : Result (WireTimestamp × ℕ) TimeError) (message : WireTimestamp → ℕ → Message) (a : Action) → Carries ns x → SumsJudged p (sent_fields ns) (a_message (carrying x message) then λ m. worked (sending p [] m a))
+sent_judged p ns (Ok (w, c)) message a e = (ap (λ (l : List Number). outside l) (append-nil ns) ∙ e, tt)
+sent_judged p ns (Err TimeError.OutOfRange) message a e = (refl, ap (λ (l : List Number). outside l) (append-nil ns) ∙ e)
 
 module _ (p : Port) where
   pub pdelay_req_sums : (h : Header) (at : Time) → SumsJudged p (sent_fields (seconds_of at ∷ less_f h at ∷ [])) (p_delay_req p h at)

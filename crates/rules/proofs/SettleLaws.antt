@@ -1,8 +1,8 @@
 -- What is settled after an exchange was stored: that exchange alone, since a fit record has no other that is complete.
-use Rattle.std.specs.Prelude.{ℕ, ◌≡◌, refl, false, ◌&&◌}
+use Rattle.std.specs.Prelude.{ℕ, ◌≡◌, refl, false, ◌&&◌, Option, Some, None}
 use Rattle.std.proofs.Common.{◌∙◌}
 use Rattle.std.proofs.Math.Path.{ap}
-use Rattle.rules.specs.Names.{Time, Identity, MaybeTime, Exchange, SlaveState, PortState, PeerState, Port}
+use Rattle.rules.specs.Names.{Time, Identity, Exchange, SlaveState, PortState, PeerState, Port}
 use Rattle.record.specs.Record.{as_slave, with_slave, with_sync, with_delay, with_peer}
 use Rattle.fitness.specs.Fit.{full, slave_full, peer_full, there}
 use Rattle.octets.proofs.BytesLaws.{neither, apart}
@@ -12,10 +12,10 @@ use Rattle.rules.specs.Measuring.{both, complete, peer_complete, measure_sync, m
 
 -- ---- an exchange that is not complete
 
-pub not_both : {A : Type 0} (a b : MaybeTime) (missing : A) (k : Time → Time → A) → there a && there b ≡ false → both a b missing k ≡ missing
-not_both MaybeTime.None b missing k e = refl
-not_both (MaybeTime.Some t) MaybeTime.None missing k e = refl
-not_both (MaybeTime.Some t) (MaybeTime.Some u) missing k e = absurd (apart cc)
+pub not_both : {A : Type 0} (a b : Option Time) (missing : A) (k : Time → Time → A) → there a && there b ≡ false → both a b missing k ≡ missing
+not_both None b missing k e = refl
+not_both (Some t) None missing k e = refl
+not_both (Some t) (Some u) missing k e = absurd (apart cc)
 
 pub not_complete : {A : Type 0} (x : Exchange) (missing : A) (k : Time → Time → A) → full x ≡ false → complete x missing k ≡ missing
 not_complete Exchange.Empty missing k e = refl
@@ -23,11 +23,11 @@ not_complete (Exchange.Measuring id send receive) missing k e = not_both send re
 
 pub peer_not_complete : {A : Type 0} (q : PeerState) (missing : A) (k : ℕ → Identity → Time → Time → Time → Time → A) → peer_full q ≡ false → peer_complete q missing k ≡ missing
 peer_not_complete PeerState.Empty missing k e = refl
-peer_not_complete (PeerState.Measuring id w MaybeTime.None b c d) missing k e = refl
-peer_not_complete (PeerState.Measuring id w (MaybeTime.Some a) MaybeTime.None c d) missing k e = refl
-peer_not_complete (PeerState.Measuring id w (MaybeTime.Some a) (MaybeTime.Some b) MaybeTime.None d) missing k e = refl
-peer_not_complete (PeerState.Measuring id w (MaybeTime.Some a) (MaybeTime.Some b) (MaybeTime.Some c) MaybeTime.None) missing k e = refl
-peer_not_complete (PeerState.Measuring id w (MaybeTime.Some a) (MaybeTime.Some b) (MaybeTime.Some c) (MaybeTime.Some d)) missing k e = absurd (apart cc)
+peer_not_complete (PeerState.Measuring id w None b c d) missing k e = refl
+peer_not_complete (PeerState.Measuring id w (Some a) None c d) missing k e = refl
+peer_not_complete (PeerState.Measuring id w (Some a) (Some b) None d) missing k e = refl
+peer_not_complete (PeerState.Measuring id w (Some a) (Some b) (Some c) None) missing k e = refl
+peer_not_complete (PeerState.Measuring id w (Some a) (Some b) (Some c) (Some d)) missing k e = absurd (apart cc)
 peer_not_complete (PeerState.Measured id w) missing k e = refl
 
 -- ---- what is settled

@@ -1,5 +1,5 @@
 -- The state's number and the filter's reset after a taken event, as `Changes` says them. A taken event's record was fit, so what completes a peer exchange is what `WorkedOut` says completes it.
-use Rattle.std.specs.Prelude.{◌≡◌, Bool, true, false, cond, ◌&&◌, ◌||◌, not, [], ℕ, ◌+ℤ◌, ◌-ℤ◌}
+use Rattle.std.specs.Prelude.{◌≡◌, Bool, true, false, cond, ◌&&◌, ◌||◌, not, [], ℕ, ◌+ℤ◌, ◌-ℤ◌, Option, Some, None, Ok, Err}
 use Rattle.std.proofs.Math.Path.{refl}
 use Rattle.std.proofs.Common.{sym, ap, ◌∙◌}
 use Rattle.std.proofs.Math.Bool.{and-true, or-true, or-false}
@@ -11,7 +11,7 @@ use Rattle.fitness.specs.Fit.{there}
 use Rattle.record.specs.Same.{same_identity}
 use Rattle.fitness.specs.FitLaws.{IsFit}
 use Rattle.fitness.proofs.FitLaws.{fit_is}
-use Rattle.rules.specs.Names.{Time, Header, Identity, Body, MaybeDuration, Exchange, SlaveState, PortState, PeerState, Port, Context, NewState, Outcome, Reading}
+use Rattle.rules.specs.Names.{Time, Header, Identity, Body, Exchange, SlaveState, PortState, PeerState, Port, Context, NewState, Outcome, Duration, Received, ReadError, Reading}
 use Rattle.rules.specs.Worked.{Worked, worked, refused, less_correction, plus_correction}
 use Rattle.rules.specs.Events.{Event, event, general, stamp, sync_timer, delay_timer, filter_answer, set_state, Done, answered, changed}
 use Rattle.rules.specs.Measuring.{recovered, settle, measured, peer_out}
@@ -192,18 +192,18 @@ module _ (p : Port) (fit : IsFit p) where
       (all_response_stamped (Quiet p) Silent tt p t id requester (λ m e. record { state = refl; reset = refl }))
 
   event_read : (at : Time) (r : Reading) → All (TurnsBy p (of_reading false (second_by_answer p) r) (of_reading no_sums (event_sums p at) r)) (viewed p.config r (on_event p at))
-  event_read at (Reading.Message h b t) =
+  event_read at (Ok (Received.Message h b t)) =
       all_cond _ Silent (ours p.config h) (on_event p at h b t) (refused Outcome.Foreign) (λ e. event_turns at h b t) (λ e. tt)
-  event_read at (Reading.Host h) = refusing _ (ours p.config h) Outcome.Host Outcome.Foreign
-  event_read at Reading.Version = tt
-  event_read at Reading.Malformed = tt
+  event_read at (Ok (Received.Host h)) = refusing _ (ours p.config h) Outcome.Host Outcome.Foreign
+  event_read at (Err ReadError.Version) = tt
+  event_read at (Err ReadError.Malformed) = tt
 
   general_read : (r : Reading) → All (TurnsBy p (of_reading false (second_by_follow_up p) r) (of_reading no_sums (later_sums p) r)) (viewed p.config r (on_general p))
-  general_read (Reading.Message h b t) =
+  general_read (Ok (Received.Message h b t)) =
       all_cond _ Silent (ours p.config h) (on_general p h b t) (refused Outcome.Foreign) (λ e. general_turns h b t) (λ e. tt)
-  general_read (Reading.Host h) = refusing _ (ours p.config h) Outcome.Host Outcome.Foreign
-  general_read Reading.Version = tt
-  general_read Reading.Malformed = tt
+  general_read (Ok (Received.Host h)) = refusing _ (ours p.config h) Outcome.Host Outcome.Foreign
+  general_read (Err ReadError.Version) = tt
+  general_read (Err ReadError.Malformed) = tt
 
 -- ---- all events
 
@@ -221,9 +221,9 @@ set_resets p NewState.Passive = or-false (is_slave p.state || is_faulty p.state)
 set_resets p NewState.Faulty = or-true (is_slave p.state || is_faulty p.state)
 set_resets p (NewState.Slave m) = or-false (is_slave p.state || is_faulty p.state)
 
-given_state : (p : Port) (mean : MaybeDuration) → (mean_given p mean).state ≡ p.state
-given_state p MaybeDuration.None = refl
-given_state p (MaybeDuration.Some d) = refl
+given_state : (p : Port) (mean : Option Duration) → (mean_given p mean).state ≡ p.state
+given_state p None = refl
+given_state p (Some d) = refl
 
 rule_turns : (p : Port) (e : Event) → IsFit p → All (λ d. AfterState p e (answered p (worked d))) (rule_of p e)
 unfolding rule_of state_after resets second_heard recovers sums_of filtered state_set

@@ -1,11 +1,11 @@
 -- What an event stores in a fit record is all that can be complete (`SettleLaws`), so a property of its two endings holds: it is complete and taken out, or it stays stored.
-use Rattle.std.specs.Prelude.{◌≡◌, refl, Bool, true, false, ◌||◌, ℕ}
+use Rattle.std.specs.Prelude.{◌≡◌, refl, Bool, true, false, ◌||◌, ℕ, Some, None}
 use Rattle.std.proofs.Common.{sym, ap, ◌∙◌, subst}
 use Rattle.time.specs.Units.{half_of}
 use Rattle.record.specs.Record.{is_faulty, with_sync, with_delay, with_slave, with_peer}
 use Rattle.fitness.specs.Fit.{slave_full, full, peer_full}
 use Rattle.fitness.specs.FitLaws.{FitSync, FitDelay, FitState}
-use Rattle.rules.specs.Names.{Duration, Identity, MaybeTime, Measurement, Exchange, SlaveState, PortState, PeerState, Port, Outcome}
+use Rattle.rules.specs.Names.{Duration, Identity, Measurement, Exchange, SlaveState, PortState, PeerState, Port, Outcome}
 use Rattle.rules.specs.Worked.{Worked}
 use Rattle.rules.specs.Events.{Done, changed, nothing}
 use Rattle.rules.specs.Measuring.{measure_sync, measure_delay, measure_peer, settle, measured, sync_out, delay_out, peer_out}
@@ -18,17 +18,17 @@ use Rattle.rules.proofs.RuleLaws.{all_measure_sync, all_measure_delay, all_measu
 
 pub sync_open : (x : Exchange) → FitSync x → full x ≡ false
 sync_open Exchange.Empty h = refl
-sync_open (Exchange.Measuring id MaybeTime.None MaybeTime.None) h = refl
-sync_open (Exchange.Measuring id MaybeTime.None (MaybeTime.Some r)) h = refl
-sync_open (Exchange.Measuring id (MaybeTime.Some s) MaybeTime.None) h = refl
-sync_open (Exchange.Measuring id (MaybeTime.Some s) (MaybeTime.Some r)) h = absurd h
+sync_open (Exchange.Measuring id None None) h = refl
+sync_open (Exchange.Measuring id None (Some r)) h = refl
+sync_open (Exchange.Measuring id (Some s) None) h = refl
+sync_open (Exchange.Measuring id (Some s) (Some r)) h = absurd h
 
 pub delay_open : (x : Exchange) → FitDelay x → full x ≡ false
 delay_open Exchange.Empty h = refl
-delay_open (Exchange.Measuring id MaybeTime.None MaybeTime.None) h = refl
-delay_open (Exchange.Measuring id MaybeTime.None (MaybeTime.Some r)) h = refl
-delay_open (Exchange.Measuring id (MaybeTime.Some s) MaybeTime.None) h = refl
-delay_open (Exchange.Measuring id (MaybeTime.Some s) (MaybeTime.Some r)) h = absurd h
+delay_open (Exchange.Measuring id None None) h = refl
+delay_open (Exchange.Measuring id None (Some r)) h = refl
+delay_open (Exchange.Measuring id (Some s) None) h = refl
+delay_open (Exchange.Measuring id (Some s) (Some r)) h = absurd h
 
 -- the parts of a fit Slave
 pub slave_fit : (p : Port) (s : SlaveState) → FitState p.state → p.state ≡ PortState.Slave s → FitSync s.sync × FitDelay s.delay

@@ -1,10 +1,10 @@
 -- Sync and FollowUp beside the numbers of `WorkedOut`: a rule refuses with 7 exactly where one leaves its range, and measures exactly what it completes.
-use Rattle.std.specs.Prelude.{ℕ, ◌≡◌, refl, Bool, false, ◌&&◌, eqb, ◌+ℤ◌, ◌-ℤ◌}
+use Rattle.std.specs.Prelude.{ℕ, ◌≡◌, refl, Bool, false, ◌&&◌, eqb, ◌+ℤ◌, ◌-ℤ◌, Some, None}
 use Rattle.std.proofs.Common.{sym}
 use Rattle.std.proofs.Math.Path.{subst}
 use Rattle.std.proofs.Math.Bool.{cond, not}
 use Rattle.std.proofs.Math.IntN.{ℤ}
-use Rattle.rules.specs.Names.{Time, Header, MaybeTime, Exchange, SlaveState, Port}
+use Rattle.rules.specs.Names.{Time, Header, Exchange, SlaveState, Port}
 use Rattle.time.specs.Units.{time, correction}
 use Rattle.wire.specs.Layout.{two_step}
 use Rattle.octets.proofs.BytesLaws.{apart}
@@ -45,16 +45,16 @@ module _ (p : Port) (s : SlaveState) (q : peer_full p.peer ≡ false) (e : full 
     two_step_lem : (x : Exchange) → timeless x ≡ false → full x ≡ false → Judged before (second_time x (opened id x)) (keeping before store (two_step_sync id t x))
     unfolding two_step_sync
     two_step_lem Exchange.Empty f g = stored (received id t) unfinished (refl, tt)
-    two_step_lem (Exchange.Measuring k MaybeTime.None MaybeTime.None) f g = absurd (apart cc)
-    two_step_lem (Exchange.Measuring k MaybeTime.None (MaybeTime.Some u)) f g =
-        by_test (λ b x. Judged before (second_time (Exchange.Measuring k MaybeTime.None (MaybeTime.Some u)) b) (keeping before store x)) (eqb k id) stays (becomes (received id t))
+    two_step_lem (Exchange.Measuring k None None) f g = absurd (apart cc)
+    two_step_lem (Exchange.Measuring k None (Some u)) f g =
+        by_test (λ b x. Judged before (second_time (Exchange.Measuring k None (Some u)) b) (keeping before store x)) (eqb k id) stays (becomes (received id t))
         still
         (stored (received id t) unfinished (refl, tt))
-    two_step_lem (Exchange.Measuring k (MaybeTime.Some u) MaybeTime.None) f g =
-        by_test (λ b x. Judged before (second_time (Exchange.Measuring k (MaybeTime.Some u) MaybeTime.None) b) (keeping before store x)) (eqb k id) (becomes (at_once k u t)) (becomes (received id t))
+    two_step_lem (Exchange.Measuring k (Some u) None) f g =
+        by_test (λ b x. Judged before (second_time (Exchange.Measuring k (Some u) None) b) (keeping before store x)) (eqb k id) (becomes (at_once k u t)) (becomes (received id t))
         (stored (at_once k u t) (sync (time u) (time t)) (sync_judged p s (at_once k u t) u t))
         (stored (received id t) unfinished (refl, tt))
-    two_step_lem (Exchange.Measuring k (MaybeTime.Some u) (MaybeTime.Some v)) f g = absurd (apart cc)
+    two_step_lem (Exchange.Measuring k (Some u) (Some v)) f g = absurd (apart cc)
 
     -- a one-step Sync is complete by itself
     one_step : (origin : Time) (x : Exchange) → Judged before (cond (opened id x) unfinished (sync (time origin) (time t))) (keeping before store (one_step_sync id origin t x))
@@ -71,16 +71,16 @@ module _ (p : Port) (s : SlaveState) (q : peer_full p.peer ≡ false) (e : full 
     follow : (x : Exchange) → timeless x ≡ false → full x ≡ false → Judged before (first_time x (opened id x)) (keeping before store (followed_up id t x))
     unfolding followed_up
     follow Exchange.Empty f g = stored (sent_at id t) unfinished (refl, tt)
-    follow (Exchange.Measuring k MaybeTime.None MaybeTime.None) f g = absurd (apart cc)
-    follow (Exchange.Measuring k (MaybeTime.Some u) MaybeTime.None) f g =
-        by_test (λ b x. Judged before (first_time (Exchange.Measuring k (MaybeTime.Some u) MaybeTime.None) b) (keeping before store x)) (eqb k id) stays (becomes (sent_at id t))
+    follow (Exchange.Measuring k None None) f g = absurd (apart cc)
+    follow (Exchange.Measuring k (Some u) None) f g =
+        by_test (λ b x. Judged before (first_time (Exchange.Measuring k (Some u) None) b) (keeping before store x)) (eqb k id) stays (becomes (sent_at id t))
         still
         (stored (sent_at id t) unfinished (refl, tt))
-    follow (Exchange.Measuring k MaybeTime.None (MaybeTime.Some u)) f g =
-        by_test (λ b x. Judged before (first_time (Exchange.Measuring k MaybeTime.None (MaybeTime.Some u)) b) (keeping before store x)) (eqb k id) (becomes (at_once k t u)) (becomes (sent_at id t))
+    follow (Exchange.Measuring k None (Some u)) f g =
+        by_test (λ b x. Judged before (first_time (Exchange.Measuring k None (Some u)) b) (keeping before store x)) (eqb k id) (becomes (at_once k t u)) (becomes (sent_at id t))
         (stored (at_once k t u) (sync (time t) (time u)) (sync_judged p s (at_once k t u) t u))
         (stored (sent_at id t) unfinished (refl, tt))
-    follow (Exchange.Measuring k (MaybeTime.Some u) (MaybeTime.Some v)) f g = absurd (apart cc)
+    follow (Exchange.Measuring k (Some u) (Some v)) f g = absurd (apart cc)
 
 -- ---- the rules
 

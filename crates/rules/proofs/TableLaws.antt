@@ -1,9 +1,9 @@
 -- Demand 1, first part: each number is answered exactly under its condition, for every record, buffer and event, and for any bytes.
-use Rattle.std.specs.Prelude.{ℕ, ◌≡◌, Bool, true, false, cond, not, List, [], ◌∷◌, ◌++◌}
+use Rattle.std.specs.Prelude.{ℕ, ◌≡◌, Bool, true, false, cond, not, List, [], ◌∷◌, ◌++◌, Result, Ok}
 use Rattle.std.proofs.Math.Path.{refl}
 use Rattle.std.proofs.Common.{sym, ◌∙◌, ap, subst}
 use Rattle.std.proofs.lemmas.Bool.{false≢true, not-false}
-use Rattle.rules.specs.Names.{Time, Header, Body, Reading, Kind, TimerAnswer, Mechanism, SlaveState, PortState, Port, Outcome}
+use Rattle.rules.specs.Names.{Time, Header, Body, Kind, Mechanism, SlaveState, PortState, Port, Outcome, TimerError, Received, Reading}
 use Rattle.time.specs.Units.{time_words, wire}
 use Rattle.timers.specs.Timers.{in_draw, delay_timer_of}
 use Rattle.timers.proofs.TimerLaws.{sync_in, delay_in}
@@ -60,7 +60,7 @@ module _ (p : Port) (l : List ℕ) (bytes : Bytes l) (rule : Header → Body →
       let h : Header = header_of l in
       let u : Time = time_words (wire (timestamp_at body l)) in
       subst (Rows false false (Kind.Table t)) (sym (message_of_bytes l t bytes a b c))
-      (by_test (λ o w. outcome_of w ≡ cond (not o) Outcome.Foreign (cond (tests (Reading.Message h (body_of t l) u)) Outcome.Range Outcome.Taken)) (ours p.config h) _ (refused Outcome.Foreign)
+      (by_test (λ o w. outcome_of w ≡ cond (not o) Outcome.Foreign (cond (tests (Ok (Received.Message h (body_of t l) u))) Outcome.Range Outcome.Taken)) (ours p.config h) _ (refused Outcome.Foreign)
       (agrees_outcome ((sums h (body_of t l) u).numbers ++ numbers_of p (sums h (body_of t l) u).completes) (λ d. Says p (sums h (body_of t l) u).completes d.measurement d.port) (rule h (body_of t l) u) (judged h (body_of t l) u))
       refl)
   shown false false Kind.Host a b c =
@@ -74,8 +74,8 @@ module _ (p : Port) (l : List ℕ) (bytes : Bytes l) (rule : Header → Body →
 -- ---- timers: on a fit record, with a draw in its limits, one is always worked out
 
 -- what comes after a timer that there is
-timer_taken : (a : TimerAnswer) (ns : ℕ) (next : ℕ → Done) → a ≡ TimerAnswer.Value ns → outcome_of (a_timer a then λ n. worked (next n)) ≡ Outcome.Taken
-timer_taken a ns next e = ap (λ (x : TimerAnswer). outcome_of (a_timer x then λ n. worked (next n))) e
+timer_taken : (a : Result ℕ TimerError) (ns : ℕ) (next : ℕ → Done) → a ≡ Ok ns → outcome_of (a_timer a then λ n. worked (next n)) ≡ Outcome.Taken
+timer_taken a ns next e = ap (λ (x : Result ℕ TimerError). outcome_of (a_timer x then λ n. worked (next n))) e
 
 module _ (p : Port) (fit : unfit p ≡ false) where
   config : FitConfig p.config

@@ -1,13 +1,11 @@
 -- Every message that a taken event has sent can be written: a buffer of 64 bytes or more, the least that row 1 lets pass, takes it whole.
-use Rattle.std.specs.Prelude.{ℕ, ◌≤◌, ◌<◌, ◌≡◌, false}
+use Rattle.std.specs.Prelude.{ℕ, ◌≤◌, ◌<◌, ◌≡◌, false, Option, Some, None, Ok}
 use Rattle.std.proofs.Math.Path.{refl}
 use Rattle.std.proofs.Common.{sym, ap, ◌∙◌, subst, arith, lit≤}
-use Rattle.std.proofs.Math.Option.{Option, none, some}
 use Rattle.wire.specs.LayoutLaws.{HeaderWidths}
 use Rattle.wire.proofs.LayoutLaws.{header_widths}
 use Rattle.reading.specs.Reading.{read_of}
 use Rattle.reading.specs.ReadingLaws.{message_is}
-use Rattle.writing.specs.declared.Written.TheVariants as W
 use Rattle.sent.specs.SentLaws.{InLimits, Sendable}
 use Rattle.sent.proofs.SentLaws.{sync_sends, delay_req_sends, pdelay_req_sends, follow_up_sends, delay_resp_sends, pdelay_resp_sends, pdelay_resp_follow_up_sends}
 use Rattle.fitness.specs.Fit.{unfit}
@@ -28,24 +26,24 @@ use Rattle.rules.specs.WritableLaws.{Writable, DoneWritable}
 
 -- ---- a message that any buffer of 64 bytes or more takes whole; where none is sent, nothing is said
 
-buffer_takes : (m : Message) (n : ℕ) → n ≤ 64 → Sendable m n → Writable (some m)
-buffer_takes m n small k room enough = k.writes room (omega (arith, small, enough)) ∙ ap W.Length (sym k.length_is)
+buffer_takes : (m : Message) (n : ℕ) → n ≤ 64 → Sendable m n → Writable (Some m)
+buffer_takes m n small k room enough = k.writes room (omega (arith, small, enough)) ∙ ap Ok (sym k.length_is)
 
 -- ---- by rule
 
 -- where `Sending` says that nothing is due, `SendingLaws` has it that nothing is sent
-no_message : (c : Config) (x : Option Due) (m : Option Message) → x ≡ none → Sends c x m → Writable m
-no_message c x none e k = tt
-no_message c x (some m) e k = absurd (subst (λ (y : Option Due). Sends c y (some m)) e k)
+no_message : (c : Config) (x : Option Due) (m : Option Message) → x ≡ None → Sends c x m → Writable m
+no_message c x None e k = tt
+no_message c x (Some m) e k = absurd (subst (λ (y : Option Due). Sends c y (Some m)) e k)
 
 module _ (p : Port) where
-  unsent : (x : Option Due) (w : Worked Done) → x ≡ none → All (Only p x) w → All DoneWritable w
+  unsent : (x : Option Due) (w : Worked Done) → x ≡ None → All (Only p x) w → All DoneWritable w
   unsent x w e = all_map (Only p x) DoneWritable Silent w (λ d k. no_message p.config x d.message e k.message)
 
-  unsent_event : (at : Time) (h : Header) (b : Body) (t : Time) → heard_due p at h b t ≡ none → All DoneWritable (on_event p at h b t)
+  unsent_event : (at : Time) (h : Header) (b : Body) (t : Time) → heard_due p at h b t ≡ None → All DoneWritable (on_event p at h b t)
   unsent_event at h b t e = unsent (heard_due p at h b t) (on_event p at h b t) e (on_event_lem p at h b t)
 
-  unsent_stamp : (at : Time) (c : Context) → stamp_due p at c ≡ none → All DoneWritable (stamped p at c)
+  unsent_stamp : (at : Time) (c : Context) → stamp_due p at c ≡ None → All DoneWritable (stamped p at c)
   unsent_stamp at c e = unsent (stamp_due p at c) (stamped p at c) e (on_stamp p at c)
 
   module _ (limits : InLimits (sender_of p.config)) where
@@ -81,7 +79,7 @@ module _ (p : Port) where
         all_viewed DoneWritable Silent silent p.config (read_of l) (on_event p at) (λ h b t r.
         event_writes k.port.delay_interval at h (subst HeaderWidths (sym (message_is l h b t r).header_is) (header_widths l k.bytes)) b t)
     rule_writes (general l) k =
-        all_viewed DoneWritable Silent silent p.config (read_of l) (on_general p) (λ h b t r. unsent none (on_general p h b t) refl (on_general_lem p h b t))
+        all_viewed DoneWritable Silent silent p.config (read_of l) (on_general p) (λ h b t r. unsent None (on_general p h b t) refl (on_general_lem p h b t))
     rule_writes (stamp at c) k = stamp_writes k.port.sync_interval at c k.context
     rule_writes sync_timer k =
         all_sync_timer_ends DoneWritable Silent tt tt p (λ n. tt) (λ master ns e.

@@ -1,12 +1,12 @@
 -- What the laws of proofs/ActionLaws.antt speak of.
 use Rattle.std.specs.Prelude.{◌≡◌, true, false, cond, [], ◌∷◌, ◌≤◌, length, eqb}
 use Rattle.rules.specs.Names.{Message, Action}
-use Rattle.rules.specs.Events.{Done, Result}
+use Rattle.rules.specs.Events.{Done, Answered}
 use Rattle.rules.specs.Actions.{is_empty, one_is, timers_first, packets_in, is_one_of, sending_of, packet_for}
 
 -- ---- order
 
-pub record Orderly (r : Result) : Type 0 where
+pub record Orderly (r : Answered) : Type 0 where
   pub at_most_two : length r.actions ≤ 2
   pub has_timers_first : timers_first r.actions ≡ true
   pub none_empty : one_is is_empty r.actions ≡ false

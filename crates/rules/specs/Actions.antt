@@ -1,6 +1,5 @@
 -- Document 01, 'Numbers the port answers', on actions: words for lists of them, and the action that goes with a sent message.
-use Rattle.std.specs.Prelude.{ℕ, Bool, true, false, cond, ◌&&◌, ◌||◌, not, List, [], ◌∷◌, eqb}
-use Rattle.std.proofs.Math.Option.{Option, none, some}
+use Rattle.std.specs.Prelude.{ℕ, Bool, true, false, cond, ◌&&◌, ◌||◌, not, List, [], ◌∷◌, eqb, Option, Some, None}
 use Rattle.rules.specs.Names.{Header, Body, Message, Context, Action}
 
 abbrev pub is_timer : Action → Bool
@@ -52,5 +51,5 @@ sending_of h (Body.DelayResp w requester) = Action.SendGeneral false
 sending_of h (Body.PDelayRespFollowUp w requester) = Action.SendGeneral true
 
 abbrev pub packet_for : Option Message → List Action
-packet_for none = []
-packet_for (some m) = sending_of m.header m.body ∷ []
+packet_for None = []
+packet_for (Some m) = sending_of m.header m.body ∷ []

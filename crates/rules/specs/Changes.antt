@@ -1,6 +1,6 @@
 -- What an event changes besides, said without the rules: the state, the filter's reset, the ids and the mean delay. It holds of events that are taken.
-use Rattle.std.specs.Prelude.{ℕ, ◌+◌, ◌%◌, Bool, true, false, cond, ◌&&◌, ◌||◌}
-use Rattle.rules.specs.Names.{Time, Header, Body, Mechanism, MaybeDuration, Ids, Port, NewState}
+use Rattle.std.specs.Prelude.{ℕ, ◌+◌, ◌%◌, Bool, true, false, cond, ◌&&◌, ◌||◌, Option, Some, None}
+use Rattle.rules.specs.Names.{Time, Header, Body, Mechanism, Ids, Port, NewState, Duration}
 use Rattle.record.specs.Record.{state_number, is_master, is_faulty, is_slave}
 use Rattle.rules.specs.Events.{Event, event, general, stamp, sync_timer, delay_timer, filter_answer, set_state, reading}
 use Rattle.rules.specs.WorkedOut.{Completed, unfinished, sync, delay, peer, second, of_reading, sums_of}
@@ -107,11 +107,11 @@ ids_after p (set_state new) = p.ids
 
 -- ---- the mean delay: what the filter gave last
 
-abbrev pub last_given : MaybeDuration → MaybeDuration → MaybeDuration
-last_given MaybeDuration.None before = before
-last_given (MaybeDuration.Some mean) before = MaybeDuration.Some mean
+abbrev pub last_given : Option Duration → Option Duration → Option Duration
+last_given None before = before
+last_given (Some mean) before = Some mean
 
-unfoldable pub mean_after : Port → Event → MaybeDuration
+unfoldable pub mean_after : Port → Event → Option Duration
 mean_after p (event at message) = p.mean
 mean_after p (general message) = p.mean
 mean_after p (stamp at context) = p.mean

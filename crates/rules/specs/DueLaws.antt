@@ -1,6 +1,5 @@
 -- What the laws of proofs/DueLaws.antt speak of.
-use Rattle.std.specs.Prelude.{◌≡◌, ℕ, ◌/◌, ◌%◌, ◌^◌, ◌<◌}
-use Rattle.std.proofs.Math.Option.{Option, none, some}
+use Rattle.std.specs.Prelude.{◌≡◌, ℕ, ◌/◌, ◌%◌, ◌^◌, ◌<◌, Option, Some, None}
 use Rattle.time.specs.Units.{signed}
 use Rattle.wire.specs.declared.MessageType.{MessageType}
 use Rattle.wire.specs.declared.MessageType.TheVariants as M
@@ -19,8 +18,8 @@ pub record Carrying (x : Carries) (w : WireTimestamp) (correction : ℕ) : Type 
 
 -- a body is its type, its timestamp and its requester
 abbrev pub naming : Option Identity → Body → (Identity → Body) → Body
-naming none other f = other
-naming (some i) other f = f i
+naming None other f = other
+naming (Some i) other f = f i
 
 abbrev pub body_from : MessageType → WireTimestamp → Option Identity → Body
 body_from M.Sync w r = Body.Sync w

@@ -1,6 +1,6 @@
 -- What the laws of proofs/EveryLaws.antt speak of.
-use Rattle.std.specs.Prelude.{◌≡◌, true, false, [], ℕ}
-use Rattle.rules.specs.Names.{Time, Header, Identity, Message, MessageAnswer, Exchange, SlaveState, PeerState, PortState, Port, Context, Action, Outcome, FilterUpdate, NewState}
+use Rattle.std.specs.Prelude.{◌≡◌, true, false, [], ℕ, Ok}
+use Rattle.rules.specs.Names.{Time, Header, Identity, Message, Exchange, SlaveState, PeerState, PortState, Port, Context, Action, Outcome, FilterUpdate, NewState}
 use Rattle.sent.specs.Messages.{follow_up_of, delay_resp_of, p_delay_resp_of, p_delay_resp_follow_up_of}
 use Rattle.record.specs.Record.{with_sync, with_delay, with_slave, with_peer}
 use Rattle.rules.specs.Events.{Done, changed, sending}
@@ -28,10 +28,10 @@ pub record Heard (P : Done → Type 0) (R : Outcome → Type 0) (p : Port) : Typ
   pub new_sync : (s : SlaveState) (x : Exchange) → p.state ≡ PortState.Slave s → Comes P R (settle (with_slave p (with_sync s x)))
   pub new_delay : (s : SlaveState) (x : Exchange) → p.state ≡ PortState.Slave s → Comes P R (settle (with_slave p (with_delay s x)))
   pub new_peer : (x : PeerState) → Comes P R (settle (with_peer p x))
-  pub delay_resp : (h : Header) (at : Time) (m : Message) → delay_resp_of (sender_of p.config) h p.config.delay_interval at ≡ MessageAnswer.Value m → P (sending p [] m (Action.SendGeneral false))
-  pub pdelay_resp : (h : Header) (at : Time) (m : Message) → p_delay_resp_of (sender_of p.config) h at ≡ MessageAnswer.Value m → P (sending p [] m (Action.SendEvent (Context.PDelayResp h.id h.source) true))
-  pub follow_up : (id : ℕ) (t : Time) (m : Message) → follow_up_of (sender_of p.config) id p.config.sync_interval t ≡ MessageAnswer.Value m → P (sending p [] m (Action.SendGeneral false))
-  pub pdelay_resp_follow_up : (id : ℕ) (requester : Identity) (t : Time) (m : Message) → p_delay_resp_follow_up_of (sender_of p.config) id requester t ≡ MessageAnswer.Value m → P (sending p [] m (Action.SendGeneral true))
+  pub delay_resp : (h : Header) (at : Time) (m : Message) → delay_resp_of (sender_of p.config) h p.config.delay_interval at ≡ Ok m → P (sending p [] m (Action.SendGeneral false))
+  pub pdelay_resp : (h : Header) (at : Time) (m : Message) → p_delay_resp_of (sender_of p.config) h at ≡ Ok m → P (sending p [] m (Action.SendEvent (Context.PDelayResp h.id h.source) true))
+  pub follow_up : (id : ℕ) (t : Time) (m : Message) → follow_up_of (sender_of p.config) id p.config.sync_interval t ≡ Ok m → P (sending p [] m (Action.SendGeneral false))
+  pub pdelay_resp_follow_up : (id : ℕ) (requester : Identity) (t : Time) (m : Message) → p_delay_resp_follow_up_of (sender_of p.config) id requester t ≡ Ok m → P (sending p [] m (Action.SendGeneral true))
 
 -- ---- all events
 

@@ -1,11 +1,11 @@
 -- What the laws of proofs/Examples.antt speak of.
-use Rattle.std.specs.Prelude.{ℕ, ◌^◌, ◌≡◌, false, List, [], ◌∷◌, pos}
+use Rattle.std.specs.Prelude.{ℕ, ◌^◌, ◌≡◌, false, List, [], ◌∷◌, pos, Some, None}
 use Rattle.time.specs.Units.{time_words}
 use Rattle.wire.specs.Layout.{header_entries}
 use Rattle.octets.specs.Bytes.{bytes_of}
 use Rattle.sent.specs.Messages.{no_flag}
 use Rattle.record.specs.Record.{with_ids, with_slave, with_sync, slave_of}
-use Rattle.rules.specs.Names.{Time, Duration, Body, Identity, Exchange, MaybeDuration, Ids, Port, Context, NewState, Action, Outcome, Measurement}
+use Rattle.rules.specs.Names.{Time, Duration, Body, Identity, Exchange, Ids, Port, Context, NewState, Action, Outcome, Measurement}
 use Rattle.rules.specs.Events.{Event, event, general, stamp, delay_timer, set_state}
 use Rattle.rules.specs.Exchanges.{received}
 use Rattle.rules.specs.Step.{step}
@@ -15,7 +15,7 @@ use Rattle.rules.specs.Running.{run_of, lines, quiet, measures, refuses, left_by
 
 -- A, and B: the FollowUp first
 abbrev pub MeasuresSync : List Event → Type 0
-MeasuresSync es = lines (run_of (slave 0) es) ≡ quiet ∷ measures (Measurement.Sync (ns 1000) (lasting 100) MaybeDuration.None) ∷ []
+MeasuresSync es = lines (run_of (slave 0) es) ≡ quiet ∷ measures (Measurement.Sync (ns 1000) (lasting 100) None) ∷ []
 
 -- two events that measure nothing, and the sync exchange that they leave open
 abbrev pub LeavesOpen : List Event → Exchange → Type 0
@@ -31,7 +31,7 @@ request_stamped es = delay_timer 0 ∷ stamp (ns 2000) (Context.DelayReq 0) ∷ 
 
 abbrev pub Asymmetric : ℕ → Duration → Duration → Duration → Type 0
 Asymmetric asymmetry raw₁ raw₂ delay =
-    lines (run_of (slave asymmetry) (event (ns 1100) (one_step_sync_of 7 1000) ∷ request_stamped (general (delay_resp_from master us 1990) ∷ []))) ≡ measures (Measurement.Sync (ns 1100) raw₁ MaybeDuration.None) ∷ quiet ∷ quiet ∷ measures (Measurement.Delay (ns 2000) raw₂ (MaybeDuration.Some delay)) ∷ []
+    lines (run_of (slave asymmetry) (event (ns 1100) (one_step_sync_of 7 1000) ∷ request_stamped (general (delay_resp_from master us 1990) ∷ []))) ≡ measures (Measurement.Sync (ns 1100) raw₁ None) ∷ quiet ∷ quiet ∷ measures (Measurement.Delay (ns 2000) raw₂ (Some delay)) ∷ []
 
 -- I: the last id is sent, and 0 follows it; each of the three by itself
 abbrev pub ids_at : ℕ → ℕ → ℕ → Ids

@@ -1,20 +1,20 @@
 -- What a record's exchanges hold after an event, said without the rules: of a Slave its sync, its delay and the raw offset it keeps, and the peer exchange. It holds of events that are taken, so each corrected time is one.
-use Rattle.std.specs.Prelude.{ℕ, Bool, true, false, cond, ◌&&◌, not, ◌+ℤ◌, ◌-ℤ◌}
+use Rattle.std.specs.Prelude.{ℕ, Bool, true, false, cond, ◌&&◌, not, ◌+ℤ◌, ◌-ℤ◌, Option, Some, None}
 use Rattle.time.specs.Units.{time, time_words, duration_words, correction}
 use Rattle.wire.specs.Layout.{two_step}
 use Rattle.record.specs.Record.{as_slave, with_delay, with_state, with_peer, slave_of}
 use Rattle.fitness.specs.Fit.{there, full}
 use Rattle.record.specs.Same.{same_identity}
-use Rattle.rules.specs.Names.{Body, Time, Header, Identity, MaybeTime, MaybeDuration, MaybeIdentity, Exchange, PortState, PeerState, Mechanism, Port, Context, NewState}
+use Rattle.rules.specs.Names.{Body, Time, Header, Identity, Exchange, PortState, PeerState, Mechanism, Port, Context, NewState, Duration}
 use Rattle.rules.specs.Events.{Event, event, general, stamp, sync_timer, delay_timer, filter_answer, set_state, reading}
 use Rattle.rules.specs.WorkedOut.{Completed, unfinished, sync, delay, peer, raw_sync, last_raw, hears, sync_in, delay_in, opened, peer_opened, request_send_in, request_receive_in, response_send_in, response_receive_in, answered_by, second, later_sums, event_sums, of_reading}
 use Rattle.rules.specs.Changes.{second_heard, recovers}
 
 -- ---- a time that comes in: one that stands is not replaced
 
-abbrev pub filled : MaybeTime → Time → MaybeTime
-filled MaybeTime.None t = MaybeTime.Some t
-filled (MaybeTime.Some u) t = MaybeTime.Some u
+abbrev pub filled : Option Time → Time → Option Time
+filled None t = Some t
+filled (Some u) t = Some u
 
 abbrev pub send_filled : Time → Exchange → Exchange
 send_filled t Exchange.Empty = Exchange.Empty
@@ -26,7 +26,7 @@ receive_filled t (Exchange.Measuring id send receive) = Exchange.Measuring id se
 
 -- an exchange as it begins; and the one of an id, which is the open one, or such a one in its place
 abbrev pub begun : ℕ → Exchange
-begun id = Exchange.Measuring id MaybeTime.None MaybeTime.None
+begun id = Exchange.Measuring id None None
 
 abbrev pub of_id : ℕ → Exchange → Exchange
 of_id id x = cond (opened id x) x (begun id)
@@ -35,10 +35,10 @@ of_id id x = cond (opened id x) x (begun id)
 abbrev pub taken_out : Exchange → Exchange
 taken_out x = cond (full x) Exchange.Empty x
 
-abbrev pub peer_taken_out : ℕ → MaybeIdentity → MaybeTime → MaybeTime → MaybeTime → MaybeTime → PeerState
-peer_taken_out id MaybeIdentity.None a b c d = PeerState.Measuring id MaybeIdentity.None a b c d
-peer_taken_out id (MaybeIdentity.Some i) a b c d =
-    cond (there a && there b && there c && there d) (PeerState.Measured id i) (PeerState.Measuring id (MaybeIdentity.Some i) a b c d)
+abbrev pub peer_taken_out : ℕ → Option Identity → Option Time → Option Time → Option Time → Option Time → PeerState
+peer_taken_out id None a b c d = PeerState.Measuring id None a b c d
+peer_taken_out id (Some i) a b c d =
+    cond (there a && there b && there c && there d) (PeerState.Measured id i) (PeerState.Measuring id (Some i) a b c d)
 
 -- ---- each exchange by what concerns it, with the time that this brings
 
@@ -69,7 +69,7 @@ abbrev pub peer_stamp_held : Port → ℕ → Time → PeerState
 peer_stamp_held p id t =
     let q : PeerState = p.peer in
     cond (peer_opened id q && not (there (request_send_in q)))
-    (peer_taken_out id (answered_by id q) (MaybeTime.Some t) (request_receive_in q) (response_send_in q) (response_receive_in q))
+    (peer_taken_out id (answered_by id q) (Some t) (request_receive_in q) (response_send_in q) (response_receive_in q))
     q
 
 -- a response counts if it is for us, from no second responder, and the first; it brings the request's receive time, and one-step has the response's send time from it
@@ -77,22 +77,22 @@ abbrev pub p_delay_resp_held : Port → Header → Identity → Time → Time �
 p_delay_resp_held p h requester body t =
     let q : PeerState = p.peer in
     cond (same_identity p.config.identity requester && not (second p h requester) && peer_opened h.id q && not (there (response_receive_in q)))
-    (peer_taken_out h.id (MaybeIdentity.Some h.source) (request_send_in q) (MaybeTime.Some body) (cond (two_step h) (response_send_in q) (MaybeTime.Some body)) (MaybeTime.Some t))
+    (peer_taken_out h.id (Some h.source) (request_send_in q) (Some body) (cond (two_step h) (response_send_in q) (Some body)) (Some t))
     q
 
 abbrev pub p_delay_resp_follow_up_held : Port → Header → Identity → Time → PeerState
 p_delay_resp_follow_up_held p h requester t =
     let q : PeerState = p.peer in
     cond (same_identity p.config.identity requester && not (second p h requester) && peer_opened h.id q && not (there (response_send_in q)))
-    (peer_taken_out h.id (MaybeIdentity.Some h.source) (request_send_in q) (request_receive_in q) (MaybeTime.Some t) (response_receive_in q))
+    (peer_taken_out h.id (Some h.source) (request_send_in q) (request_receive_in q) (Some t) (response_receive_in q))
     q
 
 -- ---- the record with that exchange; only a Slave has a sync or a delay, and its master stays
 
 -- the raw offset of a sync that is completed is kept
-abbrev pub raw_kept : Port → Completed → MaybeDuration
+abbrev pub raw_kept : Port → Completed → Option Duration
 raw_kept p unfinished = last_raw p.state
-raw_kept p (sync send receive) = MaybeDuration.Some (duration_words (raw_sync p send receive))
+raw_kept p (sync send receive) = Some (duration_words (raw_sync p send receive))
 raw_kept p (delay send receive) = last_raw p.state
 raw_kept p (peer a b c d) = last_raw p.state
 
@@ -137,7 +137,7 @@ stamp_held p t (Context.PDelayResp id requester) = p
 abbrev pub request_held : Port → Mechanism → Port
 request_held p Mechanism.EndToEnd = new_delay p (begun p.ids.delay)
 request_held p Mechanism.Peer =
-    with_peer p (PeerState.Measuring p.ids.peer MaybeIdentity.None MaybeTime.None MaybeTime.None MaybeTime.None MaybeTime.None)
+    with_peer p (PeerState.Measuring p.ids.peer None None None None None)
 
 abbrev pub state_given : NewState → PortState
 state_given NewState.Listening = PortState.Listening

@@ -1,7 +1,7 @@
 -- What the laws of proofs/HeldSyncLaws.antt speak of.
-use Rattle.std.specs.Prelude.{◌≡◌}
+use Rattle.std.specs.Prelude.{◌≡◌, Some, None}
 use Rattle.time.specs.Units.{time}
-use Rattle.rules.specs.Names.{MaybeTime, Exchange, PortState, Port}
+use Rattle.rules.specs.Names.{Exchange, PortState, Port}
 use Rattle.rules.specs.Events.{Done}
 use Rattle.rules.specs.WorkedOut.{Completed, unfinished, sync}
 
@@ -22,6 +22,6 @@ pub record EndsAs (r : Port) (d : Done) : Type 0 where
 
 abbrev pub completed_by : Exchange → Completed
 completed_by Exchange.Empty = unfinished
-completed_by (Exchange.Measuring id MaybeTime.None receive) = unfinished
-completed_by (Exchange.Measuring id (MaybeTime.Some a) MaybeTime.None) = unfinished
-completed_by (Exchange.Measuring id (MaybeTime.Some a) (MaybeTime.Some b)) = sync (time a) (time b)
+completed_by (Exchange.Measuring id None receive) = unfinished
+completed_by (Exchange.Measuring id (Some a) None) = unfinished
+completed_by (Exchange.Measuring id (Some a) (Some b)) = sync (time a) (time b)

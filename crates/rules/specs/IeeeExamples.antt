@@ -6,7 +6,7 @@ use Rattle.wire.specs.Layout.{two_step_flag}
 use Rattle.sent.specs.Messages.{header_for, no_flag, no_interval}
 use Rattle.record.specs.Record.{port_of}
 use Rattle.rules.specs.Names.{Identity, Header, Body, Mechanism, Port, Context}
-use Rattle.rules.specs.Events.{event, general, stamp, delay_timer, Result}
+use Rattle.rules.specs.Events.{event, general, stamp, delay_timer, Answered}
 use Rattle.rules.specs.Step.{step}
 use Rattle.rules.specs.Ieee.{WireFields}
 use Rattle.rules.specs.Running.{us, master, ns, lasting, set_up, slave, speaker, message, wire_ns, two_step_sync_of, follow_up_at}
@@ -24,7 +24,7 @@ nano n = pos (n * 2 ^ 32)
 abbrev pub said : Identity → MessageType → ℕ → ℕ → ℕ → Header
 said source type flags correction id = header_for (speaker source) type flags correction id no_interval
 
-abbrev pub synced : Result
+abbrev pub synced : Answered
 synced = step (step (slave 10) 64 (event (ns 1000) (two_step_sync_of 7))).port 64 (general (follow_up_at 7 900))
 
 abbrev pub delay_resp : List ℕ
@@ -50,13 +50,13 @@ abbrev pub responder : Port
 responder =
     port_of record { identity = master; sdo = 0xA22; domain = 0x21; minor = 0x1; mechanism = Mechanism.Peer; delay_interval = 0x00; sync_interval = 0x00; asymmetry = lasting 0 }
 
-abbrev pub request : Result
+abbrev pub request : Answered
 request = step asker 64 (delay_timer 0)
 
-abbrev pub response : Result
+abbrev pub response : Answered
 response = step responder 64 (event (ns 5000) request.sent)
 
-abbrev pub response_follow_up : Result
+abbrev pub response_follow_up : Answered
 response_follow_up = step response.port 64 (stamp (ns 5040) (Context.PDelayResp 0 us))
 
 abbrev pub asked_at : Port

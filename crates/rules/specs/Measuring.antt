@@ -1,7 +1,6 @@
 -- Document 01, 'The measurement': an exchange that has all its times is measured, and leaves the record with the event that brought the last.
-use Rattle.std.specs.Prelude.{ℕ, Bool, false, cond, []}
-use Rattle.std.proofs.Math.Option.{none}
-use Rattle.rules.specs.Names.{Time, Duration, Identity, MaybeTime, MaybeDuration, MaybeIdentity, Exchange, SlaveState, PortState, PeerState, Port, Measurement, MaybeMeasurement}
+use Rattle.std.specs.Prelude.{ℕ, Bool, false, cond, [], Option, Some, None}
+use Rattle.rules.specs.Names.{Time, Duration, Identity, Exchange, SlaveState, PortState, PeerState, Port, Measurement}
 use Rattle.time.specs.Units.{half_of}
 use Rattle.record.specs.Record.{is_faulty, as_slave, with_sync, with_delay, with_raw, with_state, with_slave, with_peer}
 use Rattle.rules.specs.Worked.{Worked, worked, ◌then◌, elapsed, less_duration}
@@ -10,14 +9,14 @@ use Rattle.rules.specs.Events.{Done, nothing}
 -- ---- which exchange is complete
 
 -- two times that are both there
-abbrev pub both : {A : Type 0} → MaybeTime → MaybeTime → A → (Time → Time → A) → A
-both MaybeTime.None u missing k = missing
-both (MaybeTime.Some t) MaybeTime.None missing k = missing
-both (MaybeTime.Some t) (MaybeTime.Some u) missing k = k t u
+abbrev pub both : {A : Type 0} → Option Time → Option Time → A → (Time → Time → A) → A
+both None u missing k = missing
+both (Some t) None missing k = missing
+both (Some t) (Some u) missing k = k t u
 
-abbrev pub known : {A : Type 0} → MaybeIdentity → A → (Identity → A) → A
-known MaybeIdentity.None missing k = missing
-known (MaybeIdentity.Some i) missing k = k i
+abbrev pub known : {A : Type 0} → Option Identity → A → (Identity → A) → A
+known None missing k = missing
+known (Some i) missing k = k i
 
 abbrev pub complete : {A : Type 0} → Exchange → A → (Time → Time → A) → A
 complete Exchange.Empty missing k = missing
@@ -35,12 +34,12 @@ peer_complete (PeerState.Measured id responder) missing k = missing
 
 abbrev pub measured : Port → Measurement → Bool → Done
 measured p m reset =
-    record { port = p; measurement = MaybeMeasurement.Some m; message = none; actions = []; reset = reset }
+    record { port = p; measurement = Some m; message = None; actions = []; reset = reset }
 
 -- the offset, where there is a mean delay to take off
-abbrev pub less_mean : Duration → MaybeDuration → Worked MaybeDuration
-less_mean raw MaybeDuration.None = worked MaybeDuration.None
-less_mean raw (MaybeDuration.Some mean) = less_duration raw mean then λ offset. worked (MaybeDuration.Some offset)
+abbrev pub less_mean : Duration → Option Duration → Worked (Option Duration)
+less_mean raw None = worked None
+less_mean raw (Some mean) = less_duration raw mean then λ offset. worked (Some offset)
 
 -- Sync: what passed from send to receive, less the asymmetry, at the receive time; it is kept for the delay
 abbrev pub sync_out : Port → SlaveState → Duration → Port
@@ -54,9 +53,9 @@ measure_sync p s send receive =
     worked (measured (sync_out p s raw) (Measurement.Sync receive raw offset) false)
 
 -- the delay, where a raw sync offset is kept
-abbrev pub half_below : MaybeDuration → Duration → Worked MaybeDuration
-half_below MaybeDuration.None raw = worked MaybeDuration.None
-half_below (MaybeDuration.Some last) raw = less_duration last raw then λ twice. worked (MaybeDuration.Some (half_of twice))
+abbrev pub half_below : Option Duration → Duration → Worked (Option Duration)
+half_below None raw = worked None
+half_below (Some last) raw = less_duration last raw then λ twice. worked (Some (half_of twice))
 
 -- Delay: from receive to send, less the asymmetry, at the send time
 abbrev pub delay_out : Port → SlaveState → Port

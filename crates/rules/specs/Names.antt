@@ -1,17 +1,17 @@
 -- The types of the crates below, brought together so that each file here names them in one line.
 pub use Rattle.time.specs.declared.Duration.{Duration}
-pub use Rattle.time.specs.declared.DurationAnswer.{DurationAnswer}
 pub use Rattle.time.specs.declared.Time.{Time}
-pub use Rattle.time.specs.declared.TimeAnswer.{TimeAnswer}
-pub use Rattle.timers.specs.declared.TimerAnswer.{TimerAnswer}
+pub use Rattle.time.specs.declared.TimeError.{TimeError}
+pub use Rattle.timers.specs.declared.TimerError.{TimerError}
 pub use Rattle.time.specs.declared.WireTimestamp.{WireTimestamp}
 pub use Rattle.wire.specs.declared.Body.{Body}
 pub use Rattle.wire.specs.declared.Header.{Header}
 pub use Rattle.wire.specs.declared.Identity.{Identity}
 pub use Rattle.wire.specs.declared.Kind.{Kind}
-pub use Rattle.reading.specs.declared.Reading.{Reading}
+pub use Rattle.reading.specs.Reading.{Reading}
+pub use Rattle.reading.specs.declared.ReadError.{ReadError}
+pub use Rattle.reading.specs.declared.Received.{Received}
 pub use Rattle.sent.specs.declared.Message.{Message}
-pub use Rattle.sent.specs.declared.MessageAnswer.{MessageAnswer}
 pub use Rattle.sent.specs.declared.Sender.{Sender}
 pub use Rattle.record.specs.declared.Action.{Action}
 pub use Rattle.record.specs.declared.Config.{Config}
@@ -19,11 +19,6 @@ pub use Rattle.record.specs.declared.Context.{Context}
 pub use Rattle.record.specs.declared.Exchange.{Exchange}
 pub use Rattle.record.specs.declared.FilterUpdate.{FilterUpdate}
 pub use Rattle.record.specs.declared.Ids.{Ids}
-pub use Rattle.record.specs.declared.MaybeDuration.{MaybeDuration}
-pub use Rattle.record.specs.declared.MaybeIdentity.{MaybeIdentity}
-pub use Rattle.record.specs.declared.MaybeMeasurement.{MaybeMeasurement}
-pub use Rattle.record.specs.declared.MaybeNanoseconds.{MaybeNanoseconds}
-pub use Rattle.record.specs.declared.MaybeTime.{MaybeTime}
 pub use Rattle.record.specs.declared.Measurement.{Measurement}
 pub use Rattle.record.specs.declared.Mechanism.{Mechanism}
 pub use Rattle.record.specs.declared.NewState.{NewState}

@@ -1,9 +1,9 @@
 -- What the laws of proofs/RefusalLaws.antt speak of.
-use Rattle.std.specs.Prelude.{◌≡◌, false, [], ℕ}
-use Rattle.rules.specs.Names.{Port, MaybeMeasurement, Outcome}
+use Rattle.std.specs.Prelude.{◌≡◌, false, [], ℕ, None}
+use Rattle.rules.specs.Names.{Port, Outcome}
 use Rattle.fitness.specs.Fit.{unfit}
 use Rattle.rules.specs.Worked.{worked}
-use Rattle.rules.specs.Events.{Event, Done, Result, answered}
+use Rattle.rules.specs.Events.{Event, Done, Answered, answered}
 use Rattle.rules.specs.Table.{row1, row3}
 use Rattle.rules.specs.Step.{rule_of, step}
 
@@ -15,9 +15,9 @@ NotTaken o = o ≡ Outcome.Taken → ⊥
 -- ---- a refusal changes nothing
 
 -- the same, part by part
-pub record Untouched (p : Port) (r : Result) : Type 0 where
+pub record Untouched (p : Port) (r : Answered) : Type 0 where
   pub port : r.port ≡ p
-  pub measurement : r.measurement ≡ MaybeMeasurement.None
+  pub measurement : r.measurement ≡ None
   pub sent : r.sent ≡ []
   pub actions : r.actions ≡ []
   pub reset : r.reset ≡ false

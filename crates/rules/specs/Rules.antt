@@ -1,6 +1,6 @@
 -- Document 01, 'What each event does', in its order, on decoded messages: a header, a body's parts, and the time that its timestamp means.
-use Rattle.std.specs.Prelude.{ℕ, true, false, cond, ◌||◌, List, [], ◌∷◌}
-use Rattle.rules.specs.Names.{Body, Time, Identity, Header, Sender, SlaveState, PortState, PeerState, Mechanism, Config, Ids, Port, Context, NewState, MaybeDuration, MaybeNanoseconds, FilterUpdate, Action}
+use Rattle.std.specs.Prelude.{ℕ, true, false, cond, ◌||◌, List, [], ◌∷◌, Option, Some, None}
+use Rattle.rules.specs.Names.{Body, Time, Identity, Header, Sender, SlaveState, PortState, PeerState, Mechanism, Config, Ids, Port, Context, NewState, FilterUpdate, Action, Duration}
 use Rattle.timers.specs.Timers.{sync_timer_of, delay_timer_of}
 use Rattle.sent.specs.Messages.{sync_of, follow_up_of, delay_req_of, delay_resp_of, p_delay_req_of, p_delay_resp_of, p_delay_resp_follow_up_of}
 use Rattle.record.specs.Ids.{id_after}
@@ -162,13 +162,13 @@ on_general p h (Body.PDelayRespFollowUp w requester) timestamp = p_delay_resp_fo
 
 -- ---- the filter's answer: what it gives is stored, or set as a timer
 
-abbrev pub mean_given : Port → MaybeDuration → Port
-mean_given p MaybeDuration.None = p
-mean_given p (MaybeDuration.Some mean) = with_mean p mean
+abbrev pub mean_given : Port → Option Duration → Port
+mean_given p None = p
+mean_given p (Some mean) = with_mean p mean
 
-abbrev pub update_given : MaybeNanoseconds → List Action
-update_given MaybeNanoseconds.None = []
-update_given (MaybeNanoseconds.Some ns) = Action.ResetFilterUpdateTimer ns ∷ []
+abbrev pub update_given : Option ℕ → List Action
+update_given None = []
+update_given (Some ns) = Action.ResetFilterUpdateTimer ns ∷ []
 
 unfoldable pub filtered : Port → FilterUpdate → Worked Done
 filtered p u =

@@ -1,6 +1,5 @@
 -- Document 01, 'What each event does' and 'Sent messages', for what leaves the port: which message an event has sent, and which timers it sets, said without the rules. It holds of events that are taken.
-use Rattle.std.specs.Prelude.{◌≡◌, Bool, true, false, cond, List, [], ◌∷◌, ℕ, ◌/◌, ◌%◌, ◌^◌, ◌<◌, ℤ, pos, nat_abs, ◌-ℤ◌}
-use Rattle.std.proofs.Math.Option.{Option, none, some}
+use Rattle.std.specs.Prelude.{◌≡◌, Bool, true, false, cond, List, [], ◌∷◌, ℕ, ◌/◌, ◌%◌, ◌^◌, ◌<◌, ℤ, pos, nat_abs, ◌-ℤ◌, Option, Some, None}
 use Rattle.time.specs.Units.{time, signed}
 use Rattle.timers.specs.Timers as Timers
 use Rattle.wire.specs.declared.MessageType.{MessageType}
@@ -9,7 +8,7 @@ use Rattle.wire.specs.Layout.{row, type_of, timestamp_of, rest_in, sdo_id, two_s
 use Rattle.wire.specs.declared.Rest.{Rest}
 use Rattle.wire.specs.declared.Rest.TheVariants as Q
 use Rattle.record.specs.Record.{is_master, is_slave}
-use Rattle.rules.specs.Names.{Body, Time, Header, Identity, Message, MaybeNanoseconds, Mechanism, Config, Port, Context, Action}
+use Rattle.rules.specs.Names.{Body, Time, Header, Identity, Message, Mechanism, Config, Port, Context, Action}
 use Rattle.rules.specs.Events.{Event, event, general, stamp, sync_timer, delay_timer, filter_answer, set_state, reading}
 use Rattle.rules.specs.WorkedOut.{of_reading}
 use Rattle.rules.specs.Actions.{is_timer}
@@ -29,42 +28,42 @@ pub record Due : Type 0 where
 
 -- of our own accord, and to someone's request
 abbrev pub own_due : MessageType → ℕ → Carries → Option Due
-own_due t id x = some (record { message = t; id = id; requester = none; carries = x })
+own_due t id x = Some (record { message = t; id = id; requester = None; carries = x })
 
 abbrev pub answer_due : MessageType → ℕ → Identity → Carries → Option Due
-answer_due t id i x = some (record { message = t; id = id; requester = some i; carries = x })
+answer_due t id i x = Some (record { message = t; id = id; requester = Some i; carries = x })
 
 -- 'Send stamp': the stamp of a Sync has a Master say when it left, for whatever id (reading 16); that of a response has every port do so, to whom the context names
 abbrev pub stamp_due : Port → Time → Context → Option Due
-stamp_due p at (Context.Sync id) = cond (is_master p.state) (own_due M.FollowUp id (left at)) none
-stamp_due p at (Context.DelayReq id) = none
-stamp_due p at (Context.PDelayReq id) = none
+stamp_due p at (Context.Sync id) = cond (is_master p.state) (own_due M.FollowUp id (left at)) None
+stamp_due p at (Context.DelayReq id) = None
+stamp_due p at (Context.PDelayReq id) = None
 stamp_due p at (Context.PDelayResp id requester) = answer_due M.PDelayRespFollowUp id requester (left at)
 
 -- 'Requests', our own: the configured one, with the next id of its kind
 abbrev pub request_due : Port → Mechanism → Option Due
-request_due p Mechanism.EndToEnd = cond (is_slave p.state) (own_due M.DelayReq p.ids.delay no_time) none
+request_due p Mechanism.EndToEnd = cond (is_slave p.state) (own_due M.DelayReq p.ids.delay no_time) None
 request_due p Mechanism.Peer = own_due M.PDelayReq p.ids.peer no_time
 
 -- 'Requests', those of others on the event entry: an answer has the request's id and is for its source
 abbrev pub heard_due : Port → Time → Header → Body → Time → Option Due
-heard_due p at h (Body.Sync w) t = none
-heard_due p at h (Body.DelayReq w) t = cond (is_master p.state) (answer_due M.DelayResp h.id h.source (came at h.correction)) none
+heard_due p at h (Body.Sync w) t = None
+heard_due p at h (Body.DelayReq w) t = cond (is_master p.state) (answer_due M.DelayResp h.id h.source (came at h.correction)) None
 heard_due p at h (Body.PDelayReq w) t = answer_due M.PDelayResp h.id h.source (came at h.correction)
-heard_due p at h (Body.PDelayResp w requester) t = none
-heard_due p at h (Body.FollowUp w) t = none
-heard_due p at h (Body.DelayResp w requester) t = none
-heard_due p at h (Body.PDelayRespFollowUp w requester) t = none
+heard_due p at h (Body.PDelayResp w requester) t = None
+heard_due p at h (Body.FollowUp w) t = None
+heard_due p at h (Body.DelayResp w requester) t = None
+heard_due p at h (Body.PDelayRespFollowUp w requester) t = None
 
 -- 'Sync timer': a Master's Sync, with the next id. The general entry, the filter and a new state have nothing sent
 unfoldable pub due : Port → Event → Option Due
-due p (event at message) = of_reading none (heard_due p at) (reading p.config message)
-due p (general message) = none
+due p (event at message) = of_reading None (heard_due p at) (reading p.config message)
+due p (general message) = None
 due p (stamp at context) = stamp_due p at context
-due p sync_timer = cond (is_master p.state) (own_due M.Sync p.ids.sync no_time) none
+due p sync_timer = cond (is_master p.state) (own_due M.Sync p.ids.sync no_time) None
 due p (delay_timer draw) = request_due p p.config.mechanism
-due p (filter_answer update) = none
-due p (set_state new) = none
+due p (filter_answer update) = None
+due p (set_state new) = None
 
 -- ---- 'Sent messages': what a message says besides, by its type
 
@@ -110,9 +109,9 @@ correction_in (came t c) = signed 64 c -ℤ pos (first_bits t)
 
 -- whom a body names behind its timestamp
 abbrev pub requester_in : Rest → Option Identity
-requester_in Q.Nothing = none
-requester_in Q.Reserved = none
-requester_in (Q.Requester i) = some i
+requester_in Q.Nothing = None
+requester_in Q.Reserved = None
+requester_in (Q.Requester i) = Some i
 
 -- ---- a message that tells what is due. (`DueLaws`, `told_once`: there is no second one.)
 
@@ -138,10 +137,10 @@ pub record Fulfils (c : Config) (d : Due) (m : Message) : Type 0 where
 
 -- nothing where nothing is due, and else that message
 abbrev pub Sends : Config → Option Due → Option Message → Type 0
-Sends c none none = Unit {0}
-Sends c none (some m) = ⊥
-Sends c (some d) none = ⊥
-Sends c (some d) (some m) = Fulfils c d m
+Sends c None None = Unit {0}
+Sends c None (Some m) = ⊥
+Sends c (Some d) None = ⊥
+Sends c (Some d) (Some m) = Fulfils c d m
 
 -- ---- timers: a Sync that is sent sets its own anew, a request its own ('Timers'), and the filter's is set when it asks for that ('Filter answer')
 
@@ -150,12 +149,12 @@ timers_in [] = []
 timers_in (a ∷ rest) = cond (is_timer a) (a ∷ timers_in rest) (timers_in rest)
 
 abbrev pub if_due : Option Due → Action → List Action
-if_due none a = []
-if_due (some d) a = a ∷ []
+if_due None a = []
+if_due (Some d) a = a ∷ []
 
-abbrev pub update_due : MaybeNanoseconds → List Action
-update_due MaybeNanoseconds.None = []
-update_due (MaybeNanoseconds.Some ns) = Action.ResetFilterUpdateTimer ns ∷ []
+abbrev pub update_due : Option ℕ → List Action
+update_due None = []
+update_due (Some ns) = Action.ResetFilterUpdateTimer ns ∷ []
 
 unfoldable pub timers_due : Port → Event → List Action
 timers_due p (event at message) = []

@@ -1,8 +1,7 @@
 -- What the laws of proofs/SendingLaws.antt speak of.
-use Rattle.std.specs.Prelude.{◌≡◌, List, ◌++◌}
-use Rattle.std.proofs.Math.Option.{Option}
+use Rattle.std.specs.Prelude.{◌≡◌, List, ◌++◌, Option}
 use Rattle.rules.specs.Names.{Message, Config, Port, Action}
-use Rattle.rules.specs.Events.{Event, Done, Result, packet}
+use Rattle.rules.specs.Events.{Event, Done, Answered, packet}
 use Rattle.rules.specs.Sending.{Due, due, timers_in, timers_due, Sends}
 use Rattle.rules.specs.Actions.{packet_for}
 
@@ -15,7 +14,7 @@ pub record Does (c : Config) (x : Option Due) (timers : List Action) (d : Done) 
 -- ---- a taken event
 
 -- the message that is due, its bytes the packet, and its action behind the timers that are due
-pub record IsSent (p : Port) (e : Event) (r : Result) : Type 0 where
+pub record IsSent (p : Port) (e : Event) (r : Answered) : Type 0 where
   pub message : Option Message
   pub as_due : Sends p.config (due p e) message
   pub bytes : r.sent ≡ packet message

@@ -2,7 +2,7 @@
 use Rattle.std.specs.Prelude.{◌≡◌, Bool, false, cond, ◌&&◌, ◌||◌}
 use Rattle.record.specs.Record.{state_number, is_faulty}
 use Rattle.rules.specs.Names.{Port}
-use Rattle.rules.specs.Events.{Event, Done, Result}
+use Rattle.rules.specs.Events.{Event, Done, Answered}
 use Rattle.rules.specs.WorkedOut.{Sums}
 use Rattle.rules.specs.Changes.{is_peer, state_after, resets}
 
@@ -24,6 +24,6 @@ TurnsBy p two sums d = Turns p two (is_faulty p.state && is_peer sums.completes)
 
 -- ---- all events
 
-pub record AfterState (p : Port) (e : Event) (r : Result) : Type 0 where
+pub record AfterState (p : Port) (e : Event) (r : Answered) : Type 0 where
   pub state : state_number r.port.state ≡ state_after p e
   pub reset : r.reset ≡ resets p e

@@ -1,11 +1,16 @@
 -- What a rule comes to: a value, or the row of 01's table that refuses the event. Each sum, timer and sent message is one of these.
-use Rattle.std.specs.Prelude.{ℕ, ◌+ℤ◌, ◌-ℤ◌}
-use Rattle.rules.specs.Names.{TimeAnswer, DurationAnswer, TimerAnswer, MessageAnswer, Time, Duration, Header, Message, Outcome}
+use Rattle.std.specs.Prelude.{ℕ, ◌+ℤ◌, ◌-ℤ◌, Result, Ok, Err}
+use Rattle.rules.specs.Names.{Time, Duration, Header, Message, Outcome, TimeError, TimerError}
 use Rattle.time.specs.Units.{time, time_of, duration, duration_of, correction}
 
-pub data Worked (A : Type 0) : Type 0 where
-  worked : A → Worked A
-  refused : Outcome → Worked A
+abbrev pub Worked : Type 0 → Type 0
+Worked A = Result A Outcome
+
+pattern abbrev pub worked : {A : Type 0} → A → Worked A
+worked a = Ok a
+
+pattern abbrev pub refused : {A : Type 0} → Outcome → Worked A
+refused o = Err o
 
 infixr 5 ◌then◌
 -- what comes next, with what was worked out; the first refusal is the answer
@@ -15,13 +20,13 @@ refused o then next = refused o
 
 -- ---- sums: 7 where one leaves its range
 
-abbrev pub a_time : TimeAnswer → Worked Time
-a_time (TimeAnswer.Value t) = worked t
-a_time TimeAnswer.Out = refused Outcome.Range
+abbrev pub a_time : Result Time TimeError → Worked Time
+a_time (Ok t) = worked t
+a_time (Err e) = refused Outcome.Range
 
-abbrev pub a_duration : DurationAnswer → Worked Duration
-a_duration (DurationAnswer.Value d) = worked d
-a_duration DurationAnswer.Out = refused Outcome.Range
+abbrev pub a_duration : Result Duration TimeError → Worked Duration
+a_duration (Ok d) = worked d
+a_duration (Err e) = refused Outcome.Range
 
 -- a time less the message's correction, and plus it
 unfoldable pub less_correction : Time → Header → Worked Time
@@ -39,13 +44,13 @@ less_duration a b = a_duration (duration_of (duration a -ℤ duration b))
 
 -- ---- sent messages: 7 where a field leaves its range
 
-abbrev pub a_message : MessageAnswer → Worked Message
-a_message (MessageAnswer.Value m) = worked m
-a_message MessageAnswer.Out = refused Outcome.Range
+abbrev pub a_message : Result Message TimeError → Worked Message
+a_message (Ok m) = worked m
+a_message (Err e) = refused Outcome.Range
 
 -- ---- timers: rows 2 and 3 come before every rule, so these refuse nothing there
 
-abbrev pub a_timer : TimerAnswer → Worked ℕ
-a_timer (TimerAnswer.Value ns) = worked ns
-a_timer TimerAnswer.Interval = refused Outcome.Unfit
-a_timer TimerAnswer.Draw = refused Outcome.Limits
+abbrev pub a_timer : Result ℕ TimerError → Worked ℕ
+a_timer (Ok ns) = worked ns
+a_timer (Err TimerError.Interval) = refused Outcome.Unfit
+a_timer (Err TimerError.Draw) = refused Outcome.Limits

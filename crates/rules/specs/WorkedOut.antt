@@ -1,6 +1,6 @@
 -- Row 7, and what is measured, said without the rules: the numbers that document 01 has worked out for an event, each in its own range, and the exchange that the event completes. Times are numbers of units in ℤ, so nothing here can refuse.
-use Rattle.std.specs.Prelude.{ℕ, ◌-◌, ◌/◌, ◌%◌, ◌^◌, Bool, false, cond, ◌&&◌, ◌||◌, not, List, [], ◌∷◌, ◌++◌, eqb, ℤ, pos, nat_abs, ◌+ℤ◌, ◌-ℤ◌}
-use Rattle.rules.specs.Names.{Body, Reading, Time, Identity, Header, MaybeTime, MaybeDuration, MaybeIdentity, Exchange, PortState, PeerState, Port, Context}
+use Rattle.std.specs.Prelude.{ℕ, ◌-◌, ◌/◌, ◌%◌, ◌^◌, Bool, false, cond, ◌&&◌, ◌||◌, not, List, [], ◌∷◌, ◌++◌, eqb, ℤ, pos, nat_abs, ◌+ℤ◌, ◌-ℤ◌, Option, Some, None, Ok, Err}
+use Rattle.rules.specs.Names.{Body, Time, Identity, Header, Exchange, PortState, PeerState, Port, Context, Duration, Received, ReadError, Reading}
 use Rattle.time.specs.Units.{within, time, in_time, duration, in_duration, signed, correction}
 use Rattle.wire.specs.Layout.{two_step}
 use Rattle.sent.specs.Messages.{in_correction}
@@ -52,13 +52,13 @@ peer_twice request_send request_receive response_send response_receive =
     (response_receive -ℤ request_send) -ℤ (response_send -ℤ request_receive)
 
 -- the last raw sync offset, which only a Slave keeps
-abbrev pub last_raw : PortState → MaybeDuration
-last_raw state = as_slave state MaybeDuration.None (λ s. s.raw)
+abbrev pub last_raw : PortState → Option Duration
+last_raw state = as_slave state None (λ s. s.raw)
 
 -- one number more, where a duration is there
-abbrev pub if_there : MaybeDuration → (ℤ → ℤ) → List Number
-if_there MaybeDuration.None f = []
-if_there (MaybeDuration.Some d) f = (durations ∋ f (duration d)) ∷ []
+abbrev pub if_there : Option Duration → (ℤ → ℤ) → List Number
+if_there None f = []
+if_there (Some d) f = (durations ∋ f (duration d)) ∷ []
 
 -- each difference by itself: reading 12
 abbrev pub numbers_of : Port → Completed → List Number
@@ -89,12 +89,12 @@ sync_in state = as_slave state Exchange.Empty (λ s. s.sync)
 abbrev pub delay_in : PortState → Exchange
 delay_in state = as_slave state Exchange.Empty (λ s. s.delay)
 
-abbrev pub send_in : Exchange → MaybeTime
-send_in Exchange.Empty = MaybeTime.None
+abbrev pub send_in : Exchange → Option Time
+send_in Exchange.Empty = None
 send_in (Exchange.Measuring id send receive) = send
 
-abbrev pub receive_in : Exchange → MaybeTime
-receive_in Exchange.Empty = MaybeTime.None
+abbrev pub receive_in : Exchange → Option Time
+receive_in Exchange.Empty = None
 receive_in (Exchange.Measuring id send receive) = receive
 
 -- open with this id
@@ -107,33 +107,33 @@ peer_opened id PeerState.Empty = false
 peer_opened id (PeerState.Measuring held responder a b c d) = eqb held id
 peer_opened id (PeerState.Measured held responder) = false
 
-abbrev pub peer_in : PeerState → (MaybeTime → MaybeTime → MaybeTime → MaybeTime → MaybeTime) → MaybeTime
-peer_in PeerState.Empty f = MaybeTime.None
+abbrev pub peer_in : PeerState → (Option Time → Option Time → Option Time → Option Time → Option Time) → Option Time
+peer_in PeerState.Empty f = None
 peer_in (PeerState.Measuring held responder request_send request_receive response_send response_receive) f =
     f request_send request_receive response_send response_receive
-peer_in (PeerState.Measured held responder) f = MaybeTime.None
+peer_in (PeerState.Measured held responder) f = None
 
-abbrev pub request_send_in : PeerState → MaybeTime
+abbrev pub request_send_in : PeerState → Option Time
 request_send_in q = peer_in q (λ a b c d. a)
 
-abbrev pub request_receive_in : PeerState → MaybeTime
+abbrev pub request_receive_in : PeerState → Option Time
 request_receive_in q = peer_in q (λ a b c d. b)
 
-abbrev pub response_send_in : PeerState → MaybeTime
+abbrev pub response_send_in : PeerState → Option Time
 response_send_in q = peer_in q (λ a b c d. c)
 
-abbrev pub response_receive_in : PeerState → MaybeTime
+abbrev pub response_receive_in : PeerState → Option Time
 response_receive_in q = peer_in q (λ a b c d. d)
 
 -- the responder that is known for the request with this id, measuring or measured, is another than the source
-abbrev pub differs : MaybeIdentity → Identity → Bool
-differs MaybeIdentity.None source = false
-differs (MaybeIdentity.Some i) source = not (same_identity i source)
+abbrev pub differs : Option Identity → Identity → Bool
+differs None source = false
+differs (Some i) source = not (same_identity i source)
 
-abbrev pub answered_by : ℕ → PeerState → MaybeIdentity
-answered_by id PeerState.Empty = MaybeIdentity.None
-answered_by id (PeerState.Measuring held responder a b c d) = cond (eqb held id) responder MaybeIdentity.None
-answered_by id (PeerState.Measured held responder) = cond (eqb held id) (MaybeIdentity.Some responder) MaybeIdentity.None
+abbrev pub answered_by : ℕ → PeerState → Option Identity
+answered_by id PeerState.Empty = None
+answered_by id (PeerState.Measuring held responder a b c d) = cond (eqb held id) responder None
+answered_by id (PeerState.Measured held responder) = cond (eqb held id) (Some responder) None
 
 -- a second responder to our request
 abbrev pub second : Port → Header → Identity → Bool
@@ -149,9 +149,9 @@ pub record Sums : Type 0 where
 abbrev pub no_sums : Sums
 no_sums = record { numbers = []; completes = unfinished }
 
-abbrev pub held : MaybeTime → (ℤ → Completed) → Completed
-held MaybeTime.None k = unfinished
-held (MaybeTime.Some t) k = k (time t)
+abbrev pub held : Option Time → (ℤ → Completed) → Completed
+held None k = unfinished
+held (Some t) k = k (time t)
 
 -- a corrected time, and what the exchange then is
 abbrev pub corrected : ℤ → Completed → Sums
@@ -250,10 +250,10 @@ event_sums p at h (Body.DelayResp w requester) t = later_sums p h (Body.DelayRes
 event_sums p at h (Body.PDelayRespFollowUp w requester) t = later_sums p h (Body.PDelayRespFollowUp w requester) t
 
 abbrev pub of_reading : {A : Type 0} → A → (Header → Body → Time → A) → Reading → A
-of_reading other f (Reading.Message h b t) = f h b t
-of_reading other f (Reading.Host h) = other
-of_reading other f Reading.Version = other
-of_reading other f Reading.Malformed = other
+of_reading other f (Ok (Received.Message h b t)) = f h b t
+of_reading other f (Ok (Received.Host h)) = other
+of_reading other f (Err ReadError.Version) = other
+of_reading other f (Err ReadError.Malformed) = other
 
 abbrev pub stamp_sums : Port → Time → Context → Sums
 stamp_sums p t (Context.Sync id) = cond (is_master p.state) (sent_fields (seconds_of t ∷ [])) no_sums

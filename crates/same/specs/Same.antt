@@ -1,10 +1,7 @@
 -- When two values are the same, part by part. (`SameLaws`: exactly when they are equal. For identities it is `same_identity` of `record`.)
-use Rattle.std.specs.Prelude.{Bool, true, false, ◌&&◌, eqb}
+use Rattle.std.specs.Prelude.{Bool, true, false, ◌&&◌, eqb, Option, Some, None}
 use Rattle.time.specs.declared.Time.{Time}
 use Rattle.time.specs.declared.Duration.{Duration}
-use Rattle.record.specs.declared.MaybeTime.{MaybeTime}
-use Rattle.record.specs.declared.MaybeDuration.{MaybeDuration}
-use Rattle.record.specs.declared.MaybeIdentity.{MaybeIdentity}
 use Rattle.record.specs.declared.Exchange.{Exchange}
 use Rattle.record.specs.declared.SlaveState.{SlaveState}
 use Rattle.record.specs.declared.PortState.{PortState}
@@ -15,6 +12,7 @@ use Rattle.record.specs.declared.Ids.{Ids}
 use Rattle.record.specs.declared.Port.{Port}
 use Rattle.record.specs.Record.{state_number}
 use Rattle.record.specs.Same.{same_identity}
+use Rattle.wire.specs.declared.Identity.{Identity}
 
 unfoldable pub same_time : Time → Time → Bool
 same_time a b = eqb a.hi b.hi && eqb a.lo b.lo
@@ -22,23 +20,23 @@ same_time a b = eqb a.hi b.hi && eqb a.lo b.lo
 unfoldable pub same_duration : Duration → Duration → Bool
 same_duration a b = eqb a.hi b.hi && eqb a.lo b.lo
 
-unfoldable pub same_maybe_time : MaybeTime → MaybeTime → Bool
-same_maybe_time MaybeTime.None MaybeTime.None = true
-same_maybe_time MaybeTime.None (MaybeTime.Some b) = false
-same_maybe_time (MaybeTime.Some a) MaybeTime.None = false
-same_maybe_time (MaybeTime.Some a) (MaybeTime.Some b) = same_time a b
+unfoldable pub same_maybe_time : Option Time → Option Time → Bool
+same_maybe_time None None = true
+same_maybe_time None (Some b) = false
+same_maybe_time (Some a) None = false
+same_maybe_time (Some a) (Some b) = same_time a b
 
-unfoldable pub same_maybe_duration : MaybeDuration → MaybeDuration → Bool
-same_maybe_duration MaybeDuration.None MaybeDuration.None = true
-same_maybe_duration MaybeDuration.None (MaybeDuration.Some b) = false
-same_maybe_duration (MaybeDuration.Some a) MaybeDuration.None = false
-same_maybe_duration (MaybeDuration.Some a) (MaybeDuration.Some b) = same_duration a b
+unfoldable pub same_maybe_duration : Option Duration → Option Duration → Bool
+same_maybe_duration None None = true
+same_maybe_duration None (Some b) = false
+same_maybe_duration (Some a) None = false
+same_maybe_duration (Some a) (Some b) = same_duration a b
 
-unfoldable pub same_maybe_identity : MaybeIdentity → MaybeIdentity → Bool
-same_maybe_identity MaybeIdentity.None MaybeIdentity.None = true
-same_maybe_identity MaybeIdentity.None (MaybeIdentity.Some b) = false
-same_maybe_identity (MaybeIdentity.Some a) MaybeIdentity.None = false
-same_maybe_identity (MaybeIdentity.Some a) (MaybeIdentity.Some b) = same_identity a b
+unfoldable pub same_maybe_identity : Option Identity → Option Identity → Bool
+same_maybe_identity None None = true
+same_maybe_identity None (Some b) = false
+same_maybe_identity (Some a) None = false
+same_maybe_identity (Some a) (Some b) = same_identity a b
 
 unfoldable pub same_exchange : Exchange → Exchange → Bool
 same_exchange Exchange.Empty Exchange.Empty = true

@@ -1,13 +1,10 @@
 -- Laws of sameness: each test of `Same` is true exactly when its two values are equal.
-use Rattle.std.specs.Prelude.{ℕ, ◌<◌, ◌≡◌, refl, Bool, true, false, cond, [], ◌∷◌, ◌↔◌, eqb}
+use Rattle.std.specs.Prelude.{ℕ, ◌<◌, ◌≡◌, refl, Bool, true, false, cond, [], ◌∷◌, ◌↔◌, eqb, Option, Some, None}
 use Rattle.std.proofs.Common.{sym, ap, ◌∙◌, lit<, arith, eqb-true}
 use Rattle.std.proofs.lemmas.Bool.{false≢true}
 use Rattle.time.specs.declared.Time.{Time}
 use Rattle.time.specs.declared.Duration.{Duration}
 use Rattle.wire.specs.declared.Identity.{Identity}
-use Rattle.record.specs.declared.MaybeTime.{MaybeTime}
-use Rattle.record.specs.declared.MaybeDuration.{MaybeDuration}
-use Rattle.record.specs.declared.MaybeIdentity.{MaybeIdentity}
 use Rattle.record.specs.declared.Exchange.{Exchange}
 use Rattle.record.specs.declared.SlaveState.{SlaveState}
 use Rattle.record.specs.declared.PortState.{PortState}
@@ -45,29 +42,29 @@ module _ {A M : Type 0} (nothing : M) (holds : A → M) (cases : (P : M → Type
         same_self = cases (λ a. same a a ≡ true) neither (λ a. both a a ∙ x.same_self a);
       }
 
-time_cases : (P : MaybeTime → Type 0) → P MaybeTime.None → ((a : Time) → P (MaybeTime.Some a)) → (m : MaybeTime) → P m
-time_cases P n s MaybeTime.None = n
-time_cases P n s (MaybeTime.Some a) = s a
+time_cases : (P : Option Time → Type 0) → P None → ((a : Time) → P (Some a)) → (m : Option Time) → P m
+time_cases P n s None = n
+time_cases P n s (Some a) = s a
 
 pub exact_maybe_time : Exact same_maybe_time
 unfolding same_maybe_time
-exact_maybe_time = exact_maybe MaybeTime.None MaybeTime.Some time_cases same_time exact_time same_maybe_time refl (λ b. refl) (λ a. refl) (λ a b. refl)
+exact_maybe_time = exact_maybe None Some time_cases same_time exact_time same_maybe_time refl (λ b. refl) (λ a. refl) (λ a b. refl)
 
-duration_cases : (P : MaybeDuration → Type 0) → P MaybeDuration.None → ((a : Duration) → P (MaybeDuration.Some a)) → (m : MaybeDuration) → P m
-duration_cases P n s MaybeDuration.None = n
-duration_cases P n s (MaybeDuration.Some a) = s a
+duration_cases : (P : Option Duration → Type 0) → P None → ((a : Duration) → P (Some a)) → (m : Option Duration) → P m
+duration_cases P n s None = n
+duration_cases P n s (Some a) = s a
 
 pub exact_maybe_duration : Exact same_maybe_duration
 unfolding same_maybe_duration
-exact_maybe_duration = exact_maybe MaybeDuration.None MaybeDuration.Some duration_cases same_duration exact_duration same_maybe_duration refl (λ b. refl) (λ a. refl) (λ a b. refl)
+exact_maybe_duration = exact_maybe None Some duration_cases same_duration exact_duration same_maybe_duration refl (λ b. refl) (λ a. refl) (λ a b. refl)
 
-identity_cases : (P : MaybeIdentity → Type 0) → P MaybeIdentity.None → ((a : Identity) → P (MaybeIdentity.Some a)) → (m : MaybeIdentity) → P m
-identity_cases P n s MaybeIdentity.None = n
-identity_cases P n s (MaybeIdentity.Some a) = s a
+identity_cases : (P : Option Identity → Type 0) → P None → ((a : Identity) → P (Some a)) → (m : Option Identity) → P m
+identity_cases P n s None = n
+identity_cases P n s (Some a) = s a
 
 pub exact_maybe_identity : Exact same_maybe_identity
 unfolding same_maybe_identity
-exact_maybe_identity = exact_maybe MaybeIdentity.None MaybeIdentity.Some identity_cases same_identity exact_identity same_maybe_identity refl (λ b. refl) (λ a. refl) (λ a b. refl)
+exact_maybe_identity = exact_maybe None Some identity_cases same_identity exact_identity same_maybe_identity refl (λ b. refl) (λ a. refl) (λ a b. refl)
 
 -- ---- exchanges
 

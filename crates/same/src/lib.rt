@@ -1,160 +1,153 @@
-// Whether two records, or two parts of one kind, are equal: for hosts and for tests. No rule compares more than identities, and those
-// are compared in `record`. Functions and no methods, which would have to stand with the record's types.
+// Whether two records, or two parts of one kind, are equal: for hosts and for tests. No rule compares more than identities.
+// Functions and no methods, which would have to stand with the record's types. They stay one for each type, as hosts call them and as
+// the laws speak of each; most are the derived comparison of their type.
 #![tactic(auto)]
 
 ghost use Rattle.std.specs.Prelude.{◌≡◌};
-ghost use Rattle.same.specs.Same.{same_time, same_duration, same_maybe_time, same_maybe_duration, same_maybe_identity, same_slave, slave_is, same_state, same_mechanism, same_config, same_ids, same_port};
+ghost use Rattle.same.specs.Same.{same_time, same_duration, same_maybe_time, same_maybe_duration, same_maybe_identity, same_exchange, same_peer, same_slave, same_state, same_mechanism, same_config, same_ids, same_port};
 
-mod exchanges;
-
-pub use exchanges::{same_exchange, same_peer};
 use record::equality::same_identity;
-use record::{
-    Config, Ids, MaybeDuration, MaybeIdentity, MaybeTime, Mechanism, Port, PortState, SlaveState,
-};
+use record::{Config, Exchange, Ids, Mechanism, PeerState, Port, PortState, SlaveState};
 use time::{Duration, Time};
+use wire::Identity;
 
+#[tactic(auto, unfolding(crate::specs::Same::same_time))]
 pub fn same_time(a: Time, b: Time) -> bool
     ensures { result ≡ same_time a b }
 {
-    (a.hi == b.hi) & (a.lo == b.lo)
+    a == b
 }
 
+#[tactic(auto, unfolding(crate::specs::Same::same_duration))]
 pub fn same_duration(a: Duration, b: Duration) -> bool
     ensures { result ≡ same_duration a b }
 {
-    (a.hi == b.hi) & (a.lo == b.lo)
+    a == b
 }
 
-pub fn same_maybe_time(a: MaybeTime, b: MaybeTime) -> bool
+#[tactic(auto, unfolding(crate::specs::Same::same_maybe_time, crate::specs::Same::same_time))]
+pub fn same_maybe_time(a: Option<Time>, b: Option<Time>) -> bool
     ensures { result ≡ same_maybe_time a b }
 {
-    match a {
-        MaybeTime::None => match b {
-            MaybeTime::None => true,
-            MaybeTime::Some(_) => false,
-        },
-        MaybeTime::Some(t) => match b {
-            MaybeTime::None => false,
-            MaybeTime::Some(u) => same_time(t, u),
-        },
-    }
+    a == b
 }
 
-pub fn same_maybe_duration(a: MaybeDuration, b: MaybeDuration) -> bool
+#[tactic(auto, unfolding(crate::specs::Same::same_maybe_duration, crate::specs::Same::same_duration))]
+pub fn same_maybe_duration(a: Option<Duration>, b: Option<Duration>) -> bool
     ensures { result ≡ same_maybe_duration a b }
 {
-    match a {
-        MaybeDuration::None => match b {
-            MaybeDuration::None => true,
-            MaybeDuration::Some(_) => false,
-        },
-        MaybeDuration::Some(d) => match b {
-            MaybeDuration::None => false,
-            MaybeDuration::Some(e) => same_duration(d, e),
-        },
-    }
+    a == b
 }
 
-pub fn same_maybe_identity(a: MaybeIdentity, b: MaybeIdentity) -> bool
+#[tactic(auto, unfolding(crate::specs::Same::same_maybe_identity, record::specs::Same::same_identity))]
+pub fn same_maybe_identity(a: Option<Identity>, b: Option<Identity>) -> bool
     ensures { result ≡ same_maybe_identity a b }
 {
-    match a {
-        MaybeIdentity::None => match b {
-            MaybeIdentity::None => true,
-            MaybeIdentity::Some(_) => false,
-        },
-        MaybeIdentity::Some(i) => match b {
-            MaybeIdentity::None => false,
-            MaybeIdentity::Some(j) => same_identity(i, j),
-        },
+    a == b
+}
+
+#[tactic(auto, unfolding(crate::specs::Same::same_exchange, crate::specs::Same::same_maybe_time, crate::specs::Same::same_time))]
+pub fn same_exchange(a: Exchange, b: Exchange) -> bool
+    ensures { result ≡ same_exchange a b }
+{
+    a == b
+}
+
+// By its parts: in one go the proof of the derived comparison does not close.
+#[tactic(auto, unfolding(crate::specs::Same::same_peer))]
+pub fn same_peer(a: PeerState, b: PeerState) -> bool
+    ensures { result ≡ same_peer a b }
+{
+    match (a, b) {
+        (PeerState::Empty, PeerState::Empty) => true,
+        (
+            PeerState::Measuring {
+                id,
+                responder,
+                request_send,
+                request_receive,
+                response_send,
+                response_receive,
+            },
+            PeerState::Measuring {
+                id: other,
+                responder: who,
+                request_send: t1,
+                request_receive: t2,
+                response_send: t3,
+                response_receive: t4,
+            },
+        ) => {
+            id == other
+                && same_maybe_identity(responder, who)
+                && same_maybe_time(request_send, t1)
+                && same_maybe_time(request_receive, t2)
+                && same_maybe_time(response_send, t3)
+                && same_maybe_time(response_receive, t4)
+        }
+        (
+            PeerState::Measured { id, responder },
+            PeerState::Measured {
+                id: other,
+                responder: who,
+            },
+        ) => id == other && same_identity(responder, who),
+        _ => false,
     }
 }
 
-pub fn same_slave(a: SlaveState, b: SlaveState) -> bool
-    ensures { result ≡ same_slave a b }
-{
-    let sync = a.sync;
-    let delay = a.delay;
-    let raw = a.raw;
-    let other_sync = b.sync;
-    let other_delay = b.delay;
-    let other_raw = b.raw;
-    let master = same_identity(a.master, b.master);
-    master
-        & same_exchange(sync, other_sync)
-        & same_exchange(delay, other_delay)
-        & same_maybe_duration(raw, other_raw)
-}
-
-fn is_slave(state: PortState, s: SlaveState) -> bool
-    ensures { result ≡ slave_is s state }
-{
-    match state {
-        PortState::Listening => false,
-        PortState::Master => false,
-        PortState::Passive => false,
-        PortState::Faulty => false,
-        PortState::Slave(t) => same_slave(s, t),
-    }
-}
-
-pub fn same_state(a: PortState, b: PortState) -> bool
-    ensures { result ≡ same_state a b }
-{
-    match a {
-        PortState::Listening => b.number() == 0,
-        PortState::Master => b.number() == 1,
-        PortState::Passive => b.number() == 2,
-        PortState::Faulty => b.number() == 3,
-        PortState::Slave(s) => is_slave(b, s),
-    }
-}
-
+#[tactic(auto, unfolding(crate::specs::Same::same_mechanism))]
 pub fn same_mechanism(a: Mechanism, b: Mechanism) -> bool
     ensures { result ≡ same_mechanism a b }
 {
-    match a {
-        Mechanism::EndToEnd => match b {
-            Mechanism::EndToEnd => true,
-            Mechanism::Peer => false,
-        },
-        Mechanism::Peer => match b {
-            Mechanism::EndToEnd => false,
-            Mechanism::Peer => true,
-        },
-    }
+    a == b
 }
 
+#[tactic(auto, unfolding(crate::specs::Same::same_config, crate::specs::Same::same_mechanism, crate::specs::Same::same_duration, record::specs::Same::same_identity))]
 pub fn same_config(a: Config, b: Config) -> bool
     ensures { result ≡ same_config a b }
 {
-    let mechanism = a.mechanism;
-    let other_mechanism = b.mechanism;
-    let identity = same_identity(a.identity, b.identity);
-    let numbers = identity & (a.sdo == b.sdo) & (a.domain == b.domain) & (a.minor == b.minor);
-    let delay = numbers
-        & same_mechanism(mechanism, other_mechanism)
-        & (a.delay_interval == b.delay_interval);
-    delay & (a.sync_interval == b.sync_interval) & same_duration(a.asymmetry, b.asymmetry)
+    a == b
 }
 
+#[tactic(auto, unfolding(crate::specs::Same::same_ids))]
 pub fn same_ids(a: Ids, b: Ids) -> bool
     ensures { result ≡ same_ids a b }
 {
-    (a.sync == b.sync) & (a.delay == b.delay) & (a.peer == b.peer)
+    a == b
 }
 
+#[tactic(auto, unfolding(crate::specs::Same::same_slave))]
+pub fn same_slave(a: SlaveState, b: SlaveState) -> bool
+    ensures { result ≡ same_slave a b }
+{
+    same_identity(a.master, b.master)
+        && same_exchange(a.sync, b.sync)
+        && same_exchange(a.delay, b.delay)
+        && same_maybe_duration(a.raw, b.raw)
+}
+
+#[tactic(auto, unfolding(crate::specs::Same::same_state))]
+pub fn same_state(a: PortState, b: PortState) -> bool
+    ensures { result ≡ same_state a b }
+{
+    match (a, b) {
+        (PortState::Listening, PortState::Listening) => true,
+        (PortState::Master, PortState::Master) => true,
+        (PortState::Passive, PortState::Passive) => true,
+        (PortState::Faulty, PortState::Faulty) => true,
+        (PortState::Slave(s), PortState::Slave(t)) => same_slave(s, t),
+        _ => false,
+    }
+}
+
+#[tactic(auto, unfolding(crate::specs::Same::same_port))]
 pub fn same_port(a: Port, b: Port) -> bool
     ensures { result ≡ same_port a b }
 {
-    let state = a.state;
-    let peer = a.peer;
-    let mean = a.mean;
-    let other_state = b.state;
-    let other_peer = b.peer;
-    let other_mean = b.mean;
-    let set_up = same_config(a.config, b.config);
-    let open = set_up & same_state(state, other_state) & same_peer(peer, other_peer);
-    open & same_maybe_duration(mean, other_mean) & same_ids(a.ids, b.ids)
+    same_config(a.config, b.config)
+        && same_state(a.state, b.state)
+        && same_peer(a.peer, b.peer)
+        && same_maybe_duration(a.mean, b.mean)
+        && same_ids(a.ids, b.ids)
 }

@@ -1,37 +1,30 @@
 -- Laws of what is carried of a stamp: the room that it takes, what it means, and exactly when nothing is carried.
 use Prim.Native.Nat.{ℕ, suc, ◌+◌, ◌*◌, ◌^◌, ◌≤◌, ◌<◌}
-use Rattle.std.specs.Prelude.{◌≡◌, refl, false, ◌⊎◌, ℤ, negsuc, ◌+ℤ◌, ◌-ℤ◌, ◌*ℤ◌}
+use Rattle.std.specs.Prelude.{◌≡◌, refl, false, ◌⊎◌, ℤ, negsuc, ◌+ℤ◌, ◌-ℤ◌, ◌*ℤ◌, Result, Ok, Err}
 use Rattle.std.proofs.Common.{sym, ◌∙◌, subst, inl, inr, arith, lt_trans, lit<}
 use Rattle.std.proofs.Math.Path.{ap}
 use Rattle.std.proofs.Math.Decide.{dec_lt}
 use Rattle.std.proofs.Math.IntN.{pos, sub_ℕ}
 use Rattle.time.specs.declared.Time.{Time}
 use Rattle.time.specs.declared.WireTimestamp.{WireTimestamp}
-use Rattle.time.specs.declared.WireAnswer.{WireAnswer}
-use Rattle.time.specs.declared.WireAnswer.TheVariants as W
 use Rattle.time.specs.Units.{time, wire, wire_of, signed, correction}
 use Rattle.time.specs.Laws.{signed_low}
 use Rattle.time.specs.WireLaws.{Sent, wire_is, wire_sent, wire_out, wire_out_is}
 use Rattle.time.specs.Lemmas.Integers.{pos_sub, negsuc_sub, difference_is, product_is, not_below}
 use Rattle.octets.proofs.BytesLaws.{apart}
-use Rattle.sent.specs.declared.CorrectionAnswer.{CorrectionAnswer}
-use Rattle.sent.specs.declared.CorrectionAnswer.TheVariants as C
-use Rattle.sent.specs.declared.Carried.TheVariants as S
 use Rattle.sent.specs.Messages.{in_correction, correction_of, with_correction, less_fraction, answer_stamp, fraction, follow_stamp}
 use Rattle.sent.specs.Laws.{IsCorrection}
 use Rattle.sent.proofs.Laws.{correction_is, correction_out_when, correction_out_is}
 use Rattle.sent.specs.CarriedLaws.{units_of, fraction_of, cut_to16, late_from, less_of, HasRoom, Parts, Scaled, stamp_of}
+use Rattle.time.specs.declared.TimeError.{TimeError}
 
 -- ---- what was carried
 
-fraction_from : (a : WireAnswer) (w : WireTimestamp) (c : ℕ) → fraction a ≡ S.Value w c → a ≡ W.Value w c
-fraction_from (W.Value v f) w c e =
-    let p : v ≡ w = cc in
-    let q : f ≡ c = cc in
-    λ i. W.Value (p i) (q i)
-fraction_from W.Out w c e = absurd (apart cc)
+fraction_from : (a : Result (WireTimestamp × ℕ) TimeError) (w : WireTimestamp) (c : ℕ) → fraction a ≡ Ok (w, c) → a ≡ Ok (w, c)
+fraction_from (Ok (v, f)) w c e = e
+fraction_from (Err TimeError.OutOfRange) w c e = absurd (apart cc)
 
-module _ (t : Time) (w : WireTimestamp) (c : ℕ) (e : follow_stamp t ≡ S.Value w c) where
+module _ (t : Time) (w : WireTimestamp) (c : ℕ) (e : follow_stamp t ≡ Ok (w, c)) where
   follow_sent : Sent (units_of t) w c
   unfolding follow_stamp time
   follow_sent = wire_is (units_of t) w c (fraction_from (wire_of (time t)) w c e)
@@ -43,19 +36,20 @@ module _ (t : Time) (w : WireTimestamp) (c : ℕ) (e : follow_stamp t ≡ S.Valu
   pub follow_means : wire w +ℤ correction c ≡ pos (cut_to16 (units_of t))
   follow_means = follow_sent.cut
 
-less_from : (c : ℕ) (a : WireAnswer) (w : WireTimestamp) (r : ℕ) → less_fraction c a ≡ S.Value w r → Parts c a w r
-less_from c (W.Value v f) w r e = go (correction_of (signed 64 c -ℤ pos f)) refl
+less_from : (c : ℕ) (a : Result (WireTimestamp × ℕ) TimeError) (w : WireTimestamp) (r : ℕ) → less_fraction c a ≡ Ok (w, r) → Parts c a w r
+less_from c (Ok (v, f)) w r e = go (correction_of (signed 64 c -ℤ pos f)) refl
   where
-    go : (k : CorrectionAnswer) → correction_of (signed 64 c -ℤ pos f) ≡ k → Parts c (W.Value v f) w r
-    go (C.Value k) g =
-        let h : S.Value v k ≡ S.Value w r = sym (ap (with_correction v) g) ∙ e in
-        let p : v ≡ w = cc in
-        let q : k ≡ r = cc in
-        record { f = f; stamp = ap (λ (x : WireTimestamp). W.Value x f) p; less = g ∙ ap C.Value q }
-    go C.Out g =
-        let h : S.Out ≡ S.Value w r = sym (ap (with_correction v) g) ∙ e in
+    go : (k : Result ℕ TimeError) → correction_of (signed 64 c -ℤ pos f) ≡ k → Parts c (Ok (v, f)) w r
+    go (Ok k) g =
+        let h : ◌≡◌ {A = Result (WireTimestamp × ℕ) TimeError} (Ok (v, k)) (Ok (w, r)) = sym (ap (with_correction v) g) ∙ e in
+        let same : ◌≡◌ {A = WireTimestamp × ℕ} (v, k) (w, r) = cc in
+        let p : v ≡ w = ap (λ (x : WireTimestamp × ℕ). x.0) same in
+        let q : k ≡ r = ap (λ (x : WireTimestamp × ℕ). x.1) same in
+        record { f = f; stamp = ap (λ (x : WireTimestamp). Ok (x, f)) p; less = g ∙ ap Ok q }
+    go (Err TimeError.OutOfRange) g =
+        let h : ◌≡◌ {A = Result (WireTimestamp × ℕ) TimeError} (Err TimeError.OutOfRange) (Ok (w, r)) = sym (ap (with_correction v) g) ∙ e in
         absurd (apart cc)
-less_from c W.Out w r e = absurd (apart cc)
+less_from c (Err TimeError.OutOfRange) w r e = absurd (apart cc)
 
 scaled_difference : (x f p q : ℕ) → Scaled x f (sub_ℕ p q)
 scaled_difference x f p q =
@@ -73,7 +67,7 @@ scaled : (x f : ℕ) (z : ℤ) → Scaled x f z
 scaled x f (pos n) = subst (Scaled x f) (sym (pos_sub n)) (scaled_difference x f n 0)
 scaled x f (negsuc n) = subst (Scaled x f) (sym (negsuc_sub n)) (scaled_difference x f 0 (suc n))
 
-module _ (asked : ℕ) (t : Time) (w : WireTimestamp) (c : ℕ) (e : answer_stamp asked t ≡ S.Value w c) where
+module _ (asked : ℕ) (t : Time) (w : WireTimestamp) (c : ℕ) (e : answer_stamp asked t ≡ Ok (w, c)) where
   parts : Parts asked (wire_of (time t)) w c
   unfolding answer_stamp
   parts = less_from asked (wire_of (time t)) w c e
@@ -101,19 +95,19 @@ module _ (asked : ℕ) (t : Time) (w : WireTimestamp) (c : ℕ) (e : answer_stam
 
 -- ---- when something is carried, and when nothing
 
-pub follow_timely : (t : Time) → units_of t < late_from → follow_stamp t ≡ S.Value (stamp_of t) (fraction_of t)
+pub follow_timely : (t : Time) → units_of t < late_from → follow_stamp t ≡ Ok ((stamp_of t), (fraction_of t))
 unfolding follow_stamp time
 follow_timely t h = ap fraction (wire_sent (units_of t) h)
 
-pub follow_out_when : (t : Time) → late_from ≤ units_of t → follow_stamp t ≡ S.Out
+pub follow_out_when : (t : Time) → late_from ≤ units_of t → follow_stamp t ≡ Err TimeError.OutOfRange
 unfolding follow_stamp time
 follow_out_when t h = ap fraction (wire_out (units_of t) h)
 
-fraction_out : (a : WireAnswer) → fraction a ≡ S.Out → a ≡ W.Out
-fraction_out (W.Value w f) e = absurd (apart cc)
-fraction_out W.Out e = refl
+fraction_out : (a : Result (WireTimestamp × ℕ) TimeError) → fraction a ≡ Err TimeError.OutOfRange → a ≡ Err TimeError.OutOfRange
+fraction_out (Ok (w, f)) e = absurd (apart cc)
+fraction_out (Err TimeError.OutOfRange) e = refl
 
-pub follow_out_is : (t : Time) → follow_stamp t ≡ S.Out → late_from ≤ units_of t
+pub follow_out_is : (t : Time) → follow_stamp t ≡ Err TimeError.OutOfRange → late_from ≤ units_of t
 unfolding follow_stamp time
 follow_out_is t e = wire_out_is (units_of t) (fraction_out (wire_of (time t)) e)
 
@@ -122,27 +116,27 @@ pub answer_timely : (asked : ℕ) (t : Time) → units_of t < late_from → answ
 unfolding answer_stamp time
 answer_timely asked t h = ap (less_fraction asked) (wire_sent (units_of t) h)
 
-answer_late : (asked : ℕ) (t : Time) → late_from ≤ units_of t → answer_stamp asked t ≡ S.Out
+answer_late : (asked : ℕ) (t : Time) → late_from ≤ units_of t → answer_stamp asked t ≡ Err TimeError.OutOfRange
 unfolding answer_stamp time
 answer_late asked t h = ap (less_fraction asked) (wire_out (units_of t) h)
 
-with_out : (w : WireTimestamp) (k : CorrectionAnswer) → with_correction w k ≡ S.Out → k ≡ C.Out
-with_out w (C.Value c) e = absurd (apart cc)
-with_out w C.Out e = refl
+with_out : (w : WireTimestamp) (k : Result ℕ TimeError) → with_correction w k ≡ Err TimeError.OutOfRange → k ≡ Err TimeError.OutOfRange
+with_out w (Ok c) e = absurd (apart cc)
+with_out w (Err TimeError.OutOfRange) e = refl
 
 module _ (asked : ℕ) (t : Time) where
   abbrev pub Unanswered : Type 0
   Unanswered = (late_from ≤ units_of t) ⊎ (in_correction (less_of asked t) ≡ false)
 
-  pub answer_out_when : Unanswered → answer_stamp asked t ≡ S.Out
+  pub answer_out_when : Unanswered → answer_stamp asked t ≡ Err TimeError.OutOfRange
   answer_out_when (inl h) = answer_late asked t h
   answer_out_when (inr h) = go (dec_lt (units_of t) late_from)
     where
-      go : Dec (units_of t < late_from) → answer_stamp asked t ≡ S.Out
+      go : Dec (units_of t < late_from) → answer_stamp asked t ≡ Err TimeError.OutOfRange
       go (yes k) = answer_timely asked t k ∙ ap (with_correction (stamp_of t)) (correction_out_when (less_of asked t) h)
       go (no k) = answer_late asked t (not_below (units_of t) late_from k)
 
-  pub answer_out_is : answer_stamp asked t ≡ S.Out → Unanswered
+  pub answer_out_is : answer_stamp asked t ≡ Err TimeError.OutOfRange → Unanswered
   answer_out_is e = go (dec_lt (units_of t) late_from)
     where
       go : Dec (units_of t < late_from) → Unanswered

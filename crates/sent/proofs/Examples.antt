@@ -1,12 +1,12 @@
 -- Worked examples, each computed: the seven messages as bytes, and the edges of what is carried. No two fields hold the same, but for what 01 fixes.
-use Rattle.std.specs.Prelude.{◌+◌, ◌*◌, ◌^◌, ◌≡◌, refl, [], ◌∷◌, ◌++◌}
+use Rattle.std.specs.Prelude.{◌+◌, ◌*◌, ◌^◌, ◌≡◌, refl, [], ◌∷◌, ◌++◌, Err}
 use Rattle.time.specs.Units.{time, signed, wire_of}
 use Rattle.octets.specs.Bytes.{spell, bytes_of}
 use Rattle.wire.specs.Layout.{header_entries, identity_entries, timestamp_entries, body_entries, message_entries, message_bytes}
-use Rattle.sent.specs.declared.MessageAnswer.TheVariants as A
 use Rattle.sent.specs.Messages.{header_for, zero_timestamp, correction_of, answer_stamp, follow_stamp, sync_of, delay_req_of, follow_up_of, p_delay_req_of, p_delay_resp_of, delay_resp_of, p_delay_resp_follow_up_of}
 use Rattle.writing.specs.Examples.{stamp_bytes, requester_bytes}
 use Rattle.sent.specs.Examples.{us, our_id, sync_interval, asks, at, stamp, zeros, six, head, bytes, bytes_in, Answers, NoAnswers, last, last_bytes}
+use Rattle.time.specs.declared.TimeError.{TimeError}
 
 -- ---- the seven messages
 
@@ -63,7 +63,7 @@ last_answered : Answers 5 last (six 0xFF 0x00 0x06) last_bytes
 unfolding delay_resp_of p_delay_resp_of answer_stamp time wire_of signed correction_of header_for message_bytes message_entries header_entries identity_entries timestamp_entries body_entries bytes_of spell
 last_answered = (refl, refl)
 
-late_not_followed : (follow_up_of us our_id sync_interval (at (2 ^ 48 * 10 ^ 9) 0) ≡ A.Out) × (p_delay_resp_follow_up_of us our_id (asks 0).source (at (2 ^ 48 * 10 ^ 9) 0) ≡ A.Out)
+late_not_followed : (follow_up_of us our_id sync_interval (at (2 ^ 48 * 10 ^ 9) 0) ≡ Err TimeError.OutOfRange) × (p_delay_resp_follow_up_of us our_id (asks 0).source (at (2 ^ 48 * 10 ^ 9) 0) ≡ Err TimeError.OutOfRange)
 unfolding follow_up_of p_delay_resp_follow_up_of follow_stamp time wire_of
 late_not_followed = (refl, refl)
 

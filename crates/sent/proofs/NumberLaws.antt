@@ -1,5 +1,5 @@
 -- Each definition's number, for all inputs: 7 exactly where the seconds leave 48 bits or the correction 64, and otherwise 0.
-use Rattle.std.specs.Prelude.{ℕ, ◌<◌, ◌≡◌, refl, Bool, true, false, cond, ltb, ℤ}
+use Rattle.std.specs.Prelude.{ℕ, ◌<◌, ◌≡◌, refl, Bool, true, false, cond, ltb, ℤ, Result, Ok, Err}
 use Rattle.std.proofs.Common.{ap, ◌∙◌, inl, lt-ltb, le-ltb}
 use Rattle.std.proofs.Math.Decide.{dec_lt}
 use Rattle.time.specs.declared.Time.{Time}
@@ -9,16 +9,13 @@ use Rattle.wire.specs.declared.Identity.{Identity}
 use Rattle.wire.specs.declared.Header.{Header}
 use Rattle.sent.specs.declared.Sender.{Sender}
 use Rattle.sent.specs.declared.Message.{Message}
-use Rattle.sent.specs.declared.CorrectionAnswer.{CorrectionAnswer}
-use Rattle.sent.specs.declared.CorrectionAnswer.TheVariants as C
-use Rattle.sent.specs.declared.Carried.{Carried}
-use Rattle.sent.specs.declared.Carried.TheVariants as S
 use Rattle.sent.specs.Messages.{in_correction, word, correction_of, with_correction, answer_stamp, follow_stamp, carrying, follow_up_of, p_delay_resp_of, delay_resp_of, p_delay_resp_follow_up_of}
 use Rattle.sent.specs.Numbers.{correction_number, carried_number, message_number}
 use Rattle.sent.specs.CarriedLaws.{units_of, late_from, less_of, stamp_of}
 use Rattle.sent.proofs.CarriedLaws.{follow_timely, follow_out_when, answer_timely, answer_out_when}
+use Rattle.time.specs.declared.TimeError.{TimeError}
 
-picked : (b : Bool) (c : ℕ) → correction_number (cond b (C.Value c) C.Out) ≡ cond b 0 7
+picked : (b : Bool) (c : ℕ) → correction_number (cond b (Ok c) (Err TimeError.OutOfRange)) ≡ cond b 0 7
 picked true c = refl
 picked false c = refl
 
@@ -35,9 +32,9 @@ follow_number t = go (dec_lt (units_of t) late_from)
         let k = not_below (units_of t) late_from h in
         rw (le-ltb (units_of t) late_from k) (ap carried_number (follow_out_when t k))
 
-with_number : (w : WireTimestamp) (k : CorrectionAnswer) → carried_number (with_correction w k) ≡ correction_number k
-with_number w (C.Value c) = refl
-with_number w C.Out = refl
+with_number : (w : WireTimestamp) (k : Result ℕ TimeError) → carried_number (with_correction w k) ≡ correction_number k
+with_number w (Ok c) = refl
+with_number w (Err TimeError.OutOfRange) = refl
 
 pub answer_number : (asked : ℕ) (t : Time) → carried_number (answer_stamp asked t) ≡ cond (ltb (units_of t) late_from) (cond (in_correction (less_of asked t)) 0 7) 7
 answer_number asked t = go (dec_lt (units_of t) late_from)
@@ -52,9 +49,9 @@ answer_number asked t = go (dec_lt (units_of t) late_from)
 
 -- ---- the messages
 
-pub carrying_number : (x : Carried) (message : WireTimestamp → ℕ → Message) → message_number (carrying x message) ≡ carried_number x
-carrying_number (S.Value w c) message = refl
-carrying_number S.Out message = refl
+pub carrying_number : (x : Result (WireTimestamp × ℕ) TimeError) (message : WireTimestamp → ℕ → Message) → message_number (carrying x message) ≡ carried_number x
+carrying_number (Ok (w, c)) message = refl
+carrying_number (Err TimeError.OutOfRange) message = refl
 
 module _ (s : Sender) where
   pub follow_up_number : (id sync_interval : ℕ) (t : Time) → message_number (follow_up_of s id sync_interval t) ≡ cond (ltb (units_of t) late_from) 0 7

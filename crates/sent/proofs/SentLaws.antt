@@ -1,5 +1,5 @@
 -- Laws of the seven messages: what is made can be written and reads back, and exactly when nothing is made.
-use Rattle.std.specs.Prelude.{ℕ, ◌+◌, ◌*◌, ◌/◌, ◌%◌, ◌^◌, ◌<◌, ◌≡◌, ◌↔◌, []}
+use Rattle.std.specs.Prelude.{ℕ, ◌+◌, ◌*◌, ◌/◌, ◌%◌, ◌^◌, ◌<◌, ◌≡◌, ◌↔◌, [], Result, Ok, Err}
 use Rattle.std.proofs.Math.Path.{refl, ap}
 use Rattle.std.proofs.Common.{sym, ◌∙◌, subst, append-nil, arith, lt_trans, lit<}
 use Rattle.std.proofs.Math.Bool.{true}
@@ -22,14 +22,12 @@ use Rattle.writing.specs.WritingLaws.{fits_is, fits_when, write_when}
 use Rattle.writing.specs.RoundTrips.{message_back}
 use Rattle.sent.specs.declared.Sender.{Sender}
 use Rattle.sent.specs.declared.Message.{Message}
-use Rattle.sent.specs.declared.MessageAnswer.TheVariants as A
-use Rattle.sent.specs.declared.Carried.{Carried}
-use Rattle.sent.specs.declared.Carried.TheVariants as S
 use Rattle.sent.specs.Messages.{header_for, no_flag, no_interval, zero_timestamp, answer_stamp, follow_stamp, carrying, sync_of, delay_req_of, follow_up_of, p_delay_req_of, p_delay_resp_of, delay_resp_of, p_delay_resp_follow_up_of}
 use Rattle.sent.specs.CarriedLaws.{HasRoom}
 use Rattle.sent.proofs.CarriedLaws.{follow_room, answer_room}
 use Rattle.time.specs.WireLaws.{read_in}
 use Rattle.sent.specs.SentLaws.{InLimits, Sendable, Made}
+use Rattle.time.specs.declared.TimeError.{TimeError}
 
 -- ---- limits
 
@@ -63,12 +61,12 @@ header_fits s t b flags correction id interval l same f time g c i v =
 
 -- ---- what is made can be sent
 
-pub carrying_is : (x : Carried) (message : WireTimestamp → ℕ → Message) (m : Message) → carrying x message ≡ A.Value m → Made x message m
-carrying_is (S.Value w c) message m e = record { timestamp = w; correction = c; carried = refl; made = cc }
-carrying_is S.Out message m e = absurd (apart cc)
+pub carrying_is : (x : Result (WireTimestamp × ℕ) TimeError) (message : WireTimestamp → ℕ → Message) (m : Message) → carrying x message ≡ Ok m → Made x message m
+carrying_is (Ok (w, c)) message m e = record { timestamp = w; correction = c; carried = refl; made = cc }
+carrying_is (Err TimeError.OutOfRange) message m e = absurd (apart cc)
 
 -- what carries a stamp can be sent if it can with each stamp that may be carried
-carrying_sends : (x : Carried) (message : WireTimestamp → ℕ → Message) (m : Message) (n : ℕ) → ((w : WireTimestamp) (c : ℕ) → x ≡ S.Value w c → Sendable (message w c) n) → carrying x message ≡ A.Value m → Sendable m n
+carrying_sends : (x : Result (WireTimestamp × ℕ) TimeError) (message : WireTimestamp → ℕ → Message) (m : Message) (n : ℕ) → ((w : WireTimestamp) (c : ℕ) → x ≡ Ok (w, c) → Sendable (message w c) n) → carrying x message ≡ Ok m → Sendable m n
 carrying_sends x message m n each e =
     let a : Made x message m = carrying_is x message m e in
     subst (λ (y : Message). Sendable y n) a.made (each a.timestamp a.correction a.carried)
@@ -107,26 +105,26 @@ module _ (s : Sender) (l : InLimits s) where
     unfolding sync_of
     sync_sends sync_interval v = sends (B.Sync zero_timestamp) two_step_flag 0 id sync_interval zero_room tt (lit< tt) i v
 
-    pub follow_up_sends : (sync_interval : ℕ) → sync_interval < 256 → (t : Time) (m : Message) → follow_up_of s id sync_interval t ≡ A.Value m → Sendable m 44
+    pub follow_up_sends : (sync_interval : ℕ) → sync_interval < 256 → (t : Time) (m : Message) → follow_up_of s id sync_interval t ≡ Ok m → Sendable m 44
     unfolding follow_up_of
     follow_up_sends sync_interval v t m =
         carrying_sends (follow_stamp t) _ m 44
         (λ w c e. sends (B.FollowUp w) no_flag c id sync_interval (follow_room t w c e) tt (lit< tt) i v)
 
-    pub pdelay_resp_follow_up_sends : (requester : Identity) → InWidths requester → (t : Time) (m : Message) → p_delay_resp_follow_up_of s id requester t ≡ A.Value m → Sendable m 54
+    pub pdelay_resp_follow_up_sends : (requester : Identity) → InWidths requester → (t : Time) (m : Message) → p_delay_resp_follow_up_of s id requester t ≡ Ok m → Sendable m 54
     unfolding p_delay_resp_follow_up_of
     pdelay_resp_follow_up_sends requester q t m =
         carrying_sends (follow_stamp t) _ m 54
         (λ w c e. sends (B.PDelayRespFollowUp w requester) no_flag c id no_interval (follow_room t w c e) (requester_fits (body + 10) requester q) (lit< tt) i (lit< tt))
 
   module _ (request : Header) (i : request.id < 2 ^ 16) (q : InWidths request.source) (t : Time) (m : Message) where
-    pub pdelay_resp_sends : p_delay_resp_of s request t ≡ A.Value m → Sendable m 54
+    pub pdelay_resp_sends : p_delay_resp_of s request t ≡ Ok m → Sendable m 54
     unfolding p_delay_resp_of
     pdelay_resp_sends =
         carrying_sends (answer_stamp request.correction t) _ m 54
         (λ w c e. sends (B.PDelayResp w request.source) two_step_flag c request.id no_interval (answer_room request.correction t w c e) (requester_fits (body + 10) request.source q) (lit< tt) i (lit< tt))
 
-    pub delay_resp_sends : (delay_interval : ℕ) → delay_interval < 256 → delay_resp_of s request delay_interval t ≡ A.Value m → Sendable m 54
+    pub delay_resp_sends : (delay_interval : ℕ) → delay_interval < 256 → delay_resp_of s request delay_interval t ≡ Ok m → Sendable m 54
     unfolding delay_resp_of
     delay_resp_sends delay_interval v =
         carrying_sends (answer_stamp request.correction t) _ m 54
@@ -134,23 +132,23 @@ module _ (s : Sender) (l : InLimits s) where
 
 -- ---- when nothing is made: exactly where nothing is carried
 
-pub carrying_out : (x : Carried) (message : WireTimestamp → ℕ → Message) → (carrying x message ≡ A.Out) ↔ (x ≡ S.Out)
-carrying_out (S.Value w c) message = (λ e. absurd (apart cc), λ e. absurd (apart cc))
-carrying_out S.Out message = (λ e. refl, λ e. refl)
+pub carrying_out : (x : Result (WireTimestamp × ℕ) TimeError) (message : WireTimestamp → ℕ → Message) → (carrying x message ≡ Err TimeError.OutOfRange) ↔ (x ≡ Err TimeError.OutOfRange)
+carrying_out (Ok (w, c)) message = (λ e. absurd (apart cc), λ e. absurd (apart cc))
+carrying_out (Err TimeError.OutOfRange) message = (λ e. refl, λ e. refl)
 
 module _ (s : Sender) where
-  pub follow_up_out : (id sync_interval : ℕ) (t : Time) → (follow_up_of s id sync_interval t ≡ A.Out) ↔ (follow_stamp t ≡ S.Out)
+  pub follow_up_out : (id sync_interval : ℕ) (t : Time) → (follow_up_of s id sync_interval t ≡ Err TimeError.OutOfRange) ↔ (follow_stamp t ≡ Err TimeError.OutOfRange)
   unfolding follow_up_of
   follow_up_out id sync_interval t = carrying_out (follow_stamp t) _
 
-  pub pdelay_resp_out : (request : Header) (t : Time) → (p_delay_resp_of s request t ≡ A.Out) ↔ (answer_stamp request.correction t ≡ S.Out)
+  pub pdelay_resp_out : (request : Header) (t : Time) → (p_delay_resp_of s request t ≡ Err TimeError.OutOfRange) ↔ (answer_stamp request.correction t ≡ Err TimeError.OutOfRange)
   unfolding p_delay_resp_of
   pdelay_resp_out request t = carrying_out (answer_stamp request.correction t) _
 
-  pub delay_resp_out : (request : Header) (delay_interval : ℕ) (t : Time) → (delay_resp_of s request delay_interval t ≡ A.Out) ↔ (answer_stamp request.correction t ≡ S.Out)
+  pub delay_resp_out : (request : Header) (delay_interval : ℕ) (t : Time) → (delay_resp_of s request delay_interval t ≡ Err TimeError.OutOfRange) ↔ (answer_stamp request.correction t ≡ Err TimeError.OutOfRange)
   unfolding delay_resp_of
   delay_resp_out request delay_interval t = carrying_out (answer_stamp request.correction t) _
 
-  pub pdelay_resp_follow_up_out : (id : ℕ) (requester : Identity) (t : Time) → (p_delay_resp_follow_up_of s id requester t ≡ A.Out) ↔ (follow_stamp t ≡ S.Out)
+  pub pdelay_resp_follow_up_out : (id : ℕ) (requester : Identity) (t : Time) → (p_delay_resp_follow_up_of s id requester t ≡ Err TimeError.OutOfRange) ↔ (follow_stamp t ≡ Err TimeError.OutOfRange)
   unfolding p_delay_resp_follow_up_of
   pdelay_resp_follow_up_out id requester t = carrying_out (follow_stamp t) _

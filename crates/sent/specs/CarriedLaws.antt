@@ -1,14 +1,12 @@
 -- What the laws of proofs/CarriedLaws.antt speak of.
 use Prim.Native.Nat.{ℕ, ◌+◌, ◌*◌, ◌/◌, ◌%◌, ◌^◌, ◌<◌}
-use Rattle.std.specs.Prelude.{◌≡◌, ℤ, ◌-ℤ◌, ◌*ℤ◌}
+use Rattle.std.specs.Prelude.{◌≡◌, ℤ, ◌-ℤ◌, ◌*ℤ◌, Result, Ok}
 use Rattle.std.proofs.Math.IntN.{pos}
 use Rattle.time.specs.declared.Time.{Time}
 use Rattle.time.specs.declared.WireTimestamp.{WireTimestamp}
-use Rattle.time.specs.declared.WireAnswer.{WireAnswer}
-use Rattle.time.specs.declared.WireAnswer.TheVariants as W
 use Rattle.time.specs.Units.{spelled, signed}
-use Rattle.sent.specs.declared.CorrectionAnswer.TheVariants as C
 use Rattle.sent.specs.Messages.{correction_of}
+use Rattle.time.specs.declared.TimeError.{TimeError}
 
 -- ---- a stamp's numbers
 
@@ -40,10 +38,10 @@ pub record HasRoom (w : WireTimestamp) (c : ℕ) : Type 0 where
   pub correction : c < 2 ^ 64
 
 -- where an answer's two parts come from
-pub record Parts (c : ℕ) (a : WireAnswer) (w : WireTimestamp) (r : ℕ) : Type 0 where
+pub record Parts (c : ℕ) (a : Result (WireTimestamp × ℕ) TimeError) (w : WireTimestamp) (r : ℕ) : Type 0 where
   pub f : ℕ
-  pub stamp : a ≡ W.Value w f
-  pub less : correction_of (signed 64 c -ℤ pos f) ≡ C.Value r
+  pub stamp : a ≡ Ok (w, f)
+  pub less : correction_of (signed 64 c -ℤ pos f) ≡ Ok r
 
 -- x - (z - f) × 65,536 is x + f × 65,536 - z × 65,536: where z is a difference, and for each z
 abbrev pub Scaled : ℕ → ℕ → ℤ → Type 0

@@ -1,15 +1,14 @@
 -- What the laws of proofs/Examples.antt speak of.
-use Rattle.std.specs.Prelude.{ℕ, ◌+◌, ◌-◌, ◌*◌, ◌^◌, ◌≡◌, List, [], ◌∷◌, ◌++◌, pos}
+use Rattle.std.specs.Prelude.{ℕ, ◌+◌, ◌-◌, ◌*◌, ◌^◌, ◌≡◌, List, [], ◌∷◌, ◌++◌, pos, Result, Ok, Err}
 use Rattle.time.specs.declared.Time.{Time}
 use Rattle.time.specs.Units.{time_words}
 use Rattle.wire.specs.declared.Header.{Header}
 use Rattle.wire.specs.Layout.{message_bytes}
 use Rattle.sent.specs.declared.Sender.{Sender}
 use Rattle.sent.specs.declared.Message.{Message}
-use Rattle.sent.specs.declared.MessageAnswer.{MessageAnswer}
-use Rattle.sent.specs.declared.MessageAnswer.TheVariants as A
 use Rattle.sent.specs.Messages.{p_delay_resp_of, delay_resp_of}
 use Rattle.writing.specs.Examples.{requester_bytes}
+use Rattle.time.specs.declared.TimeError.{TimeError}
 
 -- ---- the parts
 
@@ -71,9 +70,9 @@ head type length flags correction id₁ id₂ control interval =
 abbrev pub bytes : Message → List ℕ
 bytes m = message_bytes m.header m.body
 
-abbrev pub bytes_in : MessageAnswer → List ℕ
-bytes_in (A.Value m) = bytes m
-bytes_in A.Out = []
+abbrev pub bytes_in : Result Message TimeError → List ℕ
+bytes_in (Ok m) = bytes m
+bytes_in (Err TimeError.OutOfRange) = []
 
 -- ---- the seven messages
 
@@ -88,7 +87,7 @@ Answers correction t own timestamp =
 -- neither of them is made
 abbrev pub NoAnswers : ℕ → Time → Type 0
 NoAnswers correction t =
-    (delay_resp_of us (asks correction) delay_interval t ≡ A.Out) × (p_delay_resp_of us (asks correction) t ≡ A.Out)
+    (delay_resp_of us (asks correction) delay_interval t ≡ Err TimeError.OutOfRange) × (p_delay_resp_of us (asks correction) t ≡ Err TimeError.OutOfRange)
 
 -- ---- seconds: one unit below 2 ^ 48 of them, and as many
 

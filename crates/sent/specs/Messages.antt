@@ -1,9 +1,7 @@
 -- Document 01, 'Sent messages': header and body values of the seven messages, in the order of its table.
-use Rattle.std.specs.Prelude.{ℕ, suc, ◌-◌, ◌/◌, ◌%◌, ◌^◌, Bool, cond, ℤ, pos, negsuc, neg_ℤ, ◌-ℤ◌}
+use Rattle.std.specs.Prelude.{ℕ, suc, ◌-◌, ◌/◌, ◌%◌, ◌^◌, Bool, cond, ℤ, pos, negsuc, neg_ℤ, ◌-ℤ◌, Result, Ok, Err}
 use Rattle.time.specs.declared.Time.{Time}
 use Rattle.time.specs.declared.WireTimestamp.{WireTimestamp}
-use Rattle.time.specs.declared.WireAnswer.{WireAnswer}
-use Rattle.time.specs.declared.WireAnswer.TheVariants as W
 use Rattle.time.specs.Units.{within, time, signed, wire_of}
 use Rattle.wire.specs.declared.Identity.{Identity}
 use Rattle.wire.specs.declared.Header.{Header}
@@ -13,12 +11,7 @@ use Rattle.wire.specs.declared.Body.TheVariants as B
 use Rattle.wire.specs.Layout.{row, two_step_flag}
 use Rattle.sent.specs.declared.Sender.{Sender}
 use Rattle.sent.specs.declared.Message.{Message}
-use Rattle.sent.specs.declared.MessageAnswer.{MessageAnswer}
-use Rattle.sent.specs.declared.MessageAnswer.TheVariants as A
-use Rattle.sent.specs.declared.CorrectionAnswer.{CorrectionAnswer}
-use Rattle.sent.specs.declared.CorrectionAnswer.TheVariants as C
-use Rattle.sent.specs.declared.Carried.{Carried}
-use Rattle.sent.specs.declared.Carried.TheVariants as S
+use Rattle.time.specs.declared.TimeError.{TimeError}
 
 -- ---- the parts
 
@@ -56,40 +49,40 @@ zero_timestamp = record { seconds = 0; nanos = 0 }
 abbrev pub in_correction : ℤ → Bool
 in_correction z = within (neg_ℤ (pos (2 ^ 63))) (pos (2 ^ 63 - 1)) z
 
--- the correction field of so many 2 ^ -16 ns, or `Out` where 64 bits do not hold it
+-- the correction field of so many 2 ^ -16 ns, or `OutOfRange` where 64 bits do not hold it
 abbrev pub word : ℤ → ℕ
 word (pos n) = n
 word (negsuc n) = 2 ^ 64 - suc n
 
-unfoldable pub correction_of : ℤ → CorrectionAnswer
-correction_of z = cond (in_correction z) (C.Value (word z)) C.Out
+unfoldable pub correction_of : ℤ → Result ℕ TimeError
+correction_of z = cond (in_correction z) (Ok (word z)) (Err TimeError.OutOfRange)
 
--- ---- what is carried of a stamp: its timestamp, and in the correction f, the first 16 bits of what is left of a nanosecond. `Out` where the seconds leave 48 bits, or the correction 64
+-- ---- what is carried of a stamp: its timestamp, and in the correction f, the first 16 bits of what is left of a nanosecond. `OutOfRange` where the seconds leave 48 bits, or the correction 64
 
 -- DelayResp and PDelayResp carry the request's correction less f
-abbrev pub with_correction : WireTimestamp → CorrectionAnswer → Carried
-with_correction w (C.Value c) = S.Value w c
-with_correction w C.Out = S.Out
+abbrev pub with_correction : WireTimestamp → Result ℕ TimeError → Result (WireTimestamp × ℕ) TimeError
+with_correction w (Ok c) = Ok (w, c)
+with_correction w (Err e) = Err TimeError.OutOfRange
 
-abbrev pub less_fraction : ℕ → WireAnswer → Carried
-less_fraction c (W.Value w f) = with_correction w (correction_of (signed 64 c -ℤ pos f))
-less_fraction c W.Out = S.Out
+abbrev pub less_fraction : ℕ → Result (WireTimestamp × ℕ) TimeError → Result (WireTimestamp × ℕ) TimeError
+less_fraction c (Ok (w, f)) = with_correction w (correction_of (signed 64 c -ℤ pos f))
+less_fraction c (Err e) = Err TimeError.OutOfRange
 
-unfoldable pub answer_stamp : ℕ → Time → Carried
+unfoldable pub answer_stamp : ℕ → Time → Result (WireTimestamp × ℕ) TimeError
 answer_stamp asked received = less_fraction asked (wire_of (time received))
 
 -- FollowUp and PDelayRespFollowUp carry f
-abbrev pub fraction : WireAnswer → Carried
-fraction (W.Value w f) = S.Value w f
-fraction W.Out = S.Out
+abbrev pub fraction : Result (WireTimestamp × ℕ) TimeError → Result (WireTimestamp × ℕ) TimeError
+fraction (Ok (w, f)) = Ok (w, f)
+fraction (Err e) = Err TimeError.OutOfRange
 
-unfoldable pub follow_stamp : Time → Carried
+unfoldable pub follow_stamp : Time → Result (WireTimestamp × ℕ) TimeError
 follow_stamp sent = fraction (wire_of (time sent))
 
--- a message with what is carried, if that is not `Out`
-abbrev pub carrying : Carried → (WireTimestamp → ℕ → Message) → MessageAnswer
-carrying (S.Value w c) message = A.Value (message w c)
-carrying S.Out message = A.Out
+-- a message with what is carried, if that is not `OutOfRange`
+abbrev pub carrying : Result (WireTimestamp × ℕ) TimeError → (WireTimestamp → ℕ → Message) → Result Message TimeError
+carrying (Ok (w, c)) message = Ok (message w c)
+carrying (Err e) message = Err TimeError.OutOfRange
 
 -- ---- the messages
 
@@ -99,7 +92,7 @@ sync_of s id sync_interval = record { header = header_for s M.Sync two_step_flag
 unfoldable pub delay_req_of : Sender → ℕ → Message
 delay_req_of s id = record { header = header_for s M.DelayReq no_flag 0 id no_interval; body = B.DelayReq zero_timestamp }
 
-unfoldable pub follow_up_of : Sender → ℕ → ℕ → Time → MessageAnswer
+unfoldable pub follow_up_of : Sender → ℕ → ℕ → Time → Result Message TimeError
 follow_up_of s id sync_interval sent =
     carrying (follow_stamp sent) (λ w c. record { header = header_for s M.FollowUp no_flag c id sync_interval; body = B.FollowUp w })
 
@@ -107,17 +100,17 @@ unfoldable pub p_delay_req_of : Sender → ℕ → Message
 p_delay_req_of s id = record { header = header_for s M.PDelayReq no_flag 0 id no_interval; body = B.PDelayReq zero_timestamp }
 
 -- answers copy the request's id and name its source as requester
-unfoldable pub p_delay_resp_of : Sender → Header → Time → MessageAnswer
+unfoldable pub p_delay_resp_of : Sender → Header → Time → Result Message TimeError
 p_delay_resp_of s request received =
     carrying (answer_stamp request.correction received)
     (λ w c. record { header = header_for s M.PDelayResp two_step_flag c request.id no_interval; body = B.PDelayResp w request.source })
 
-unfoldable pub delay_resp_of : Sender → Header → ℕ → Time → MessageAnswer
+unfoldable pub delay_resp_of : Sender → Header → ℕ → Time → Result Message TimeError
 delay_resp_of s request delay_interval received =
     carrying (answer_stamp request.correction received)
     (λ w c. record { header = header_for s M.DelayResp no_flag c request.id delay_interval; body = B.DelayResp w request.source })
 
-unfoldable pub p_delay_resp_follow_up_of : Sender → ℕ → Identity → Time → MessageAnswer
+unfoldable pub p_delay_resp_follow_up_of : Sender → ℕ → Identity → Time → Result Message TimeError
 p_delay_resp_follow_up_of s id requester sent =
     carrying (follow_stamp sent)
     (λ w c. record { header = header_for s M.PDelayRespFollowUp no_flag c id no_interval; body = B.PDelayRespFollowUp w requester })

@@ -4,19 +4,11 @@
 #![tactic(auto)]
 
 mod answers;
-mod keeping;
+mod hearing;
 
 use record::Port;
 
 #[derive(Clone, Copy)]
 pub struct Measuring {
     pub port: Port,
-}
-
-// An answer to a PDelayReq: for another port, from a second responder, or ours.
-#[derive(Clone, Copy)]
-pub enum Guard {
-    Foreign,
-    Second,
-    Ours,
 }

@@ -1,8 +1,5 @@
 -- Small logs worked out.
-use Rattle.std.specs.Prelude.{◌≡◌, refl, true, false, [], ◌∷◌, ◌++◌, replicate}
-use Rattle.std.proofs.Math.Option.{some}
-use Rattle.record.specs.declared.MaybeDuration.{MaybeDuration}
-use Rattle.record.specs.declared.MaybeNanoseconds.{MaybeNanoseconds}
+use Rattle.std.specs.Prelude.{◌≡◌, refl, true, false, [], ◌∷◌, ◌++◌, replicate, Some, None}
 use Rattle.rules.specs.Events.{general, sync_timer, delay_timer}
 use Rattle.octets.specs.Bytes.{number}
 use Rattle.wire.specs.Layout.{identity_at}
@@ -12,11 +9,11 @@ use Rattle.streaming.specs.Log.{next, good, bad, rest, scan_from, scan, end, bad
 use Rattle.streaming.specs.Examples.{configuration, config, message, timer, wrong, heard, three, stamped, answers, answer, slave}
 
 -- 36 bytes, 28 and 3 come before the bad field, so it stands at 67
-pub worked : read_log (configuration ++ (message ++ (timer ++ wrong))) ≡ record { configuration = some config; events = heard ∷ sync_timer ∷ []; ending = bad_at 67 }
+pub worked : read_log (configuration ++ (message ++ (timer ++ wrong))) ≡ record { configuration = Some config; events = heard ∷ sync_timer ∷ []; ending = bad_at 67 }
 unfolding number identity_at time_at duration_at inner_of event_of sync_timer_of config_of field_of stated_of front_of scan_from scan gathered read_log
 worked = refl
 
-pub well : read_log (configuration ++ message) ≡ record { configuration = some config; events = heard ∷ []; ending = end }
+pub well : read_log (configuration ++ message) ≡ record { configuration = Some config; events = heard ∷ []; ending = end }
 unfolding number identity_at time_at duration_at inner_of event_of config_of field_of stated_of none_of front_of scan_from scan gathered read_log
 well = refl
 
@@ -29,7 +26,7 @@ pub without : read_log timer ≡ ended (bad_at 0)
 unfolding number field_of stated_of front_of scan_from scan gathered read_log
 without = refl
 
-pub twice : read_log (configuration ++ configuration) ≡ record { configuration = some config; events = []; ending = bad_at 36 }
+pub twice : read_log (configuration ++ configuration) ≡ record { configuration = Some config; events = []; ending = bad_at 36 }
 unfolding number identity_at duration_at config_of field_of stated_of front_of scan_from scan gathered read_log
 twice = refl
 
@@ -53,8 +50,8 @@ pub kinds : scan true false 36 three ≡ next (general []) 6 (next stamped 38 (n
 unfolding number identity_at time_at inner_of context_at general_of stamp_of delay_timer_of field_of stated_of none_of front_of scan_from scan
 kinds = refl
 
-pub answered : scan true false 36 answers ≡ next (answer (MaybeDuration.Some (record { hi = 0; lo = 3 })) (MaybeNanoseconds.Some 2)) 33
-    (next (answer MaybeDuration.None (MaybeNanoseconds.Some 2)) 14 (next (answer MaybeDuration.None MaybeNanoseconds.None) 3 (next slave 17 good)))
+pub answered : scan true false 36 answers ≡ next (answer (Some (record { hi = 0; lo = 3 })) (Some 2)) 33
+    (next (answer None (Some 2)) 14 (next (answer None None) 3 (next slave 17 good)))
 unfolding number identity_at duration_at inner_of state_at update_of filter_of set_state_of field_of stated_of none_of front_of scan_from scan
 answered = refl
 

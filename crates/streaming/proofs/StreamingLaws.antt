@@ -1,21 +1,19 @@
 -- Reading a log by pieces is reading it whole, and a window of 1,049 bytes is enough for it.
 use Rattle.std.specs.Prelude.{ℕ, zero, suc, ◌+◌, ◌-◌, ◌≤◌, ◌<◌, ◌≡◌, refl, Bool, true, take, drop}
 use Rattle.std.proofs.Math.Path.{sym, ap}
-use Rattle.std.proofs.Common.{◌∙◌, subst, zero-add, suc-add, arith, length-drop, take-take}
+use Rattle.std.proofs.Common.{◌∙◌, subst, zero-add, suc-add, arith, length-drop, length-take-le, take-take, take_all}
 use Rattle.std.proofs.Math.Bool.{false}
 use mathlib.Core.List.{List, [], ◌∷◌, ◌++◌, append_assoc}
 use Rattle.std.proofs.Math.ListN.{length}
 use Rattle.std.proofs.Math.Seq.{take-nil, drop-nil}
-use Rattle.std.proofs.lemmas.List.{drop-append-le, take-append-le}
-use Rattle.time.specs.declared.Time.{Time}
+use Rattle.std.proofs.lemmas.List.{drop-append-le}
 use Rattle.record.specs.declared.Config.{Config}
-use Rattle.rules.specs.Events.{event, general}
-use Rattle.event_log.specs.declared.Logged.{Logged}
-use Rattle.event_log.specs.declared.Next.{Next}
+use Rattle.rules.specs.Events.{Event}
+use Rattle.event_log.specs.Told.{Next}
 use Rattle.event_log.specs.Fields.{front_of, none_of}
-use Rattle.streaming.specs.Log.{Fields, starts, next, good, bad, rest, told, onward, scan_from, scan, gathered, read_log}
+use Rattle.streaming.specs.Log.{Fields, starts, next, good, bad, rest, onward, scan_from, scan, gathered, read_log}
 use Rattle.streaming.specs.Streaming.{feed, stream, joined, begun, fed, unread}
-use Rattle.streaming.specs.FrontLaws.{Placed, Front, front, Steady, steady}
+use Rattle.streaming.specs.FrontLaws.{EndsWith, Placed, Front, front, Steady, steady}
 
 -- ---- what stands at the front, one fact each
 
@@ -24,15 +22,15 @@ module _ (f : Bool) (s : List ℕ) (last : Bool) where
   known x p = subst (Front f s last) p (front f s last)
 
   -- an event's field has its three bytes at least, and lies within s
-  pub front_fits : (e : Logged) (n : ℕ) → front_of f s last ≡ Next.Event e n → (3 ≤ n) × (n ≤ length s)
+  pub front_fits : (e : Event) (n : ℕ) → front_of f s last ≡ Next.Event e n → (3 ≤ n) × (n ≤ length s)
   front_fits e n p = (known (Next.Event e n) p).1
 
   -- its message, if it has one, is at most 1,024 bytes long and ends where the field does
-  pub front_placed : (e : Logged) (n : ℕ) → front_of f s last ≡ Next.Event e n → Placed n e
+  pub front_placed : (e : Event) (n : ℕ) → front_of f s last ≡ Next.Event e n → Placed (take n s) e
   front_placed e n p = (known (Next.Event e n) p).0.1
 
   -- the configuration is read first, and nothing else is
-  pub front_later : (e : Logged) (n : ℕ) → front_of f s last ≡ Next.Event e n → f ≡ false
+  pub front_later : (e : Event) (n : ℕ) → front_of f s last ≡ Next.Event e n → f ≡ false
   front_later e n p = (known (Next.Event e n) p).0.0
 
   pub front_config_first : (c : Config) → front_of f s last ≡ Next.Config c → f ≡ true
@@ -59,11 +57,10 @@ inside zero k s = ap (λ (n : ℕ). take k (take n s)) (zero-add k) ∙ take-tak
 inside (suc a) k [] = ap (λ (x : List ℕ). take k (drop (suc a) x)) (take-nil (suc a + k))
 inside (suc a) k (b ∷ s) = ap (λ (n : ℕ). take k (drop (suc a) (take n (b ∷ s)))) (suc-add a k) ∙ inside a k s
 
-pub told-event : (s : List ℕ) (t : Time) (a k n : ℕ) → a + k ≡ n → told (take n s) (Logged.Event t a k) ≡ event t (take k (drop a s))
-told-event s t a k n h = ap (λ (m : ℕ). event t (take k (drop a (take m s)))) (sym h) ∙ ap (event t) (inside a k s)
-
-pub told-general : (s : List ℕ) (a k n : ℕ) → a + k ≡ n → told (take n s) (Logged.General a k) ≡ general (take k (drop a s))
-told-general s a k n h = ap (λ (m : ℕ). general (take k (drop a (take m s)))) (sym h) ∙ ap general (inside a k s)
+pub message_seen : (s : List ℕ) (n : ℕ) (m : List ℕ) → n ≤ length s → EndsWith (take n s) m → (a : ℕ) × (a + length m ≡ n) × (take (length m) (drop a s) ≡ m)
+message_seen s n m h (a, e, d) =
+    let q : a + length m ≡ n = e ∙ length-take-le n s h in
+    (a, q, sym (inside a (length m) s) ∙ ap (λ (k : ℕ). take (length m) (drop a (take k s))) q ∙ ap (λ (x : List ℕ). take (length m) x) d ∙ take_all (length m) m (omega arith))
 
 -- ---- how a log is read
 
@@ -75,7 +72,7 @@ skip_drop last (b ∷ s) (suc k) f at = skip_drop last s k f at
 
 onward_same : (x : Next) (at : ℕ) (f last : Bool) (s : List ℕ) (k l : ℕ → Fields) → Front f s last x → ((n : ℕ) → 3 ≤ n → k n ≡ l n) → onward x at f s k ≡ onward x at f s l
 onward_same (Next.Config c) at f last s k l g h = ap (starts c 36) (h 36 (omega arith))
-onward_same (Next.Event e n) at f last s k l g h = ap (next (told (take n s) e) n) (h n g.1.0)
+onward_same (Next.Event e n) at f last s k l g h = ap (next e n) (h n g.1.0)
 onward_same Next.More at f last s k l g h = refl
 onward_same Next.End at f last s k l g h = refl
 onward_same Next.Bad at f last s k l g h = refl
@@ -114,9 +111,8 @@ module _ (last f : Bool) (at : ℕ) (s t : List ℕ) where
   piece go (Next.Event e n) p k q =
       let g : n ≤ length s = k.1.1 in
       scan_at last f at (s ++ t) (Next.Event e n) q
-      ∙ ap (λ (v : List ℕ). next (told v e) n (scan last false (at + n) (drop n (s ++ t)))) (take-append-le n s t g)
-      ∙ ap (λ (v : List ℕ). next (told (take n s) e) n (scan last false (at + n) v)) (drop-append-le n s t g)
-      ∙ ap (next (told (take n s) e) n) (go n k.1.0 g)
+      ∙ ap (λ (v : List ℕ). next e n (scan last false (at + n) v)) (drop-append-le n s t g)
+      ∙ ap (next e n) (go n k.1.0 g)
       ∙ sym (ap (feed last t) (scan_at false f at s (Next.Event e n) p))
   piece go Next.More p k q = sym (ap (feed last t) (scan_at false f at s Next.More p))
   piece go Next.Bad p k q = scan_at last f at (s ++ t) Next.Bad q ∙ sym (ap (feed last t) (scan_at false f at s Next.Bad p))

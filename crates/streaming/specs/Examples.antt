@@ -1,12 +1,11 @@
 -- What the laws of proofs/Examples.antt speak of.
-use Rattle.std.specs.Prelude.{ℕ, List, [], ◌∷◌, ◌++◌, replicate}
+use Rattle.std.specs.Prelude.{ℕ, List, [], ◌∷◌, ◌++◌, replicate, Option}
 use Rattle.record.specs.declared.Config.{Config}
 use Rattle.record.specs.declared.Mechanism.{Mechanism}
 use Rattle.record.specs.declared.Context.{Context}
 use Rattle.record.specs.declared.NewState.{NewState}
-use Rattle.record.specs.declared.MaybeDuration.{MaybeDuration}
-use Rattle.record.specs.declared.MaybeNanoseconds.{MaybeNanoseconds}
 use Rattle.rules.specs.Events.{Event, event, stamp, filter_answer, set_state}
+use Rattle.time.specs.declared.Duration.{Duration}
 
 -- clock 258, port 7, sdo id 256, domain 4, minor 1, peer, interval bytes 3 and 255, asymmetry 9
 abbrev pub configuration : List ℕ
@@ -58,7 +57,7 @@ answers =
     ++ ((0x15 ∷ 0 ∷ 11 ∷ 6 ∷ 0 ∷ 8 ∷ replicate 7 0 ++ (2 ∷ []))
     ++ (0x15 ∷ 0 ∷ 0 ∷ 0x16 ∷ 0 ∷ 14 ∷ 7 ∷ 0 ∷ 11 ∷ 4 ∷ replicate 7 0 ++ (6 ∷ 0 ∷ 4 ∷ [])))
 
-abbrev pub answer : MaybeDuration → MaybeNanoseconds → Event
+abbrev pub answer : Option Duration → Option ℕ → Event
 answer d n = filter_answer (record { mean_delay = d; next_update = n })
 
 abbrev pub slave : Event

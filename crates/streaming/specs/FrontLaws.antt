@@ -1,7 +1,7 @@
 -- What stands at the front of some bytes: what is known of them by it, and that more bytes behind them do not change it.
-use Rattle.std.specs.Prelude.{ℕ, ◌+◌, ◌≤◌, ◌<◌, ◌≡◌, Bool, cond, List, ◌++◌, length, take, ltb}
+use Rattle.std.specs.Prelude.{ℕ, ◌+◌, ◌≤◌, ◌<◌, ◌≡◌, Bool, cond, List, ◌++◌, length, take, drop, ltb, Option, Some, None}
 use Rattle.std.proofs.Math.Path.{refl}
-use Rattle.std.proofs.Common.{sym, ◌∙◌, ap, subst, arith, length-append, length-take-le}
+use Rattle.std.proofs.Common.{sym, ◌∙◌, ap, arith, length-append, length-drop, length-take-le, take_all}
 use Rattle.std.proofs.Math.Bool.{true, false}
 use borrow.Author.Tests.{leb-true, leb-false, eqb-true, eqb-false, ltb-false, le-ltb}
 use Rattle.std.proofs.lemmas.List.{take-append-le}
@@ -9,136 +9,145 @@ use Rattle.std.proofs.Math.Dec.{leb, eqb}
 use Rattle.time.specs.declared.Time.{Time}
 use Rattle.octets.specs.Bytes.{number}
 use Rattle.octets.proofs.BytesLaws.{number_inside}
-use Rattle.record.specs.declared.MaybeDuration.{MaybeDuration}
 use Rattle.record.specs.declared.Mechanism.{Mechanism}
-use Rattle.event_log.specs.declared.Logged.{Logged}
-use Rattle.event_log.specs.declared.Inner.{Inner}
-use Rattle.event_log.specs.declared.Found.{Found}
-use Rattle.event_log.specs.declared.Next.{Next}
-use Rattle.event_log.specs.declared.MaybeContext.{MaybeContext}
-use Rattle.event_log.specs.declared.MaybeState.{MaybeState}
+use Rattle.record.specs.declared.Context.{Context}
+use Rattle.record.specs.declared.NewState.{NewState}
+use Rattle.rules.specs.Events.{Event, event, general, stamp, sync_timer, delay_timer, filter_answer, set_state}
+use Rattle.event_log.specs.Told.{Field, Next}
 use Rattle.event_log.specs.Fields.{time_at, duration_at, inner_of, needed, exactly, perhaps, ends, context_at, state_at, stamp_found, state_found, event_of, general_of, stamp_of, sync_timer_of}
 use Rattle.event_log.specs.Fields.{delay_timer_of, update_of, filter_of, set_state_of, config_with, config_of, field_of, stated_of, possible, seen, none_of, cut_of, front_of}
 use Rattle.event_log.proofs.FieldsLaws.{front_cut, front_whole, impossible, impossible_grows, possible_small}
+use Rattle.time.specs.declared.Duration.{Duration}
 
--- ---- what a field of m bytes holds
+-- ---- what a field f holds
+
+-- it ends with the bytes m
+abbrev pub EndsWith : List ℕ → List ℕ → Type 0
+EndsWith f m = (a : ℕ) × (a + length m ≡ length f) × (drop a f ≡ m)
 
 -- a message ends where its field does
-abbrev pub Placed : ℕ → Logged → Type 0
-Placed m (Logged.Event t a n) = (n ≤ 1024) × (a + n ≡ m)
-Placed m (Logged.General a n) = (n ≤ 1024) × (a + n ≡ m)
-Placed m (Logged.Stamp t c) = Unit {0}
-Placed m Logged.SyncTimer = Unit {0}
-Placed m (Logged.DelayTimer d) = Unit {0}
-Placed m (Logged.FilterAnswer u) = Unit {0}
-Placed m (Logged.SetState s) = Unit {0}
+abbrev pub Placed : List ℕ → Event → Type 0
+Placed f (event t m) = (length m ≤ 1024) × EndsWith f m
+Placed f (general m) = (length m ≤ 1024) × EndsWith f m
+Placed f (stamp t c) = Unit {0}
+Placed f sync_timer = Unit {0}
+Placed f (delay_timer d) = Unit {0}
+Placed f (filter_answer u) = Unit {0}
+Placed f (set_state s) = Unit {0}
 
 -- a configuration has 36 bytes and comes first, an event does not
-abbrev Held : Bool → ℕ → Found → Type 0
-Held first m Found.No = Unit {0}
-Held first m (Found.Config c) = (first ≡ true) × (m ≡ 36)
-Held first m (Found.Some e) = (first ≡ false) × Placed m e
+abbrev Held : Bool → List ℕ → Option Field → Type 0
+Held first f None = Unit {0}
+Held first f (Some (Field.Config c)) = (first ≡ true) × (length f ≡ 36)
+Held first f (Some (Field.Event e)) = (first ≡ false) × Placed f e
 
-module _ (m : ℕ) where
-  held_cond : (b : Bool) (x y : Found) → (b ≡ true → Held false m x) → Held false m y → Held false m (cond b x y)
+-- n bytes from b on, where the field ends behind them
+message : (f : List ℕ) (b n : ℕ) → n ≤ 1024 → b + n ≡ length f → (length (take n (drop b f)) ≤ 1024) × EndsWith f (take n (drop b f))
+message f b n h e =
+    let all : take n (drop b f) ≡ drop b f = take_all n (drop b f) (omega (arith, e, length-drop b f)) in
+    let same : length (take n (drop b f)) ≡ n = ap length all ∙ omega (arith, e, length-drop b f) in
+    (omega (arith, same, h), (b, omega (arith, same, e), sym all))
+
+module _ (f : List ℕ) where
+  held_cond : (b : Bool) (x y : Option Field) → (b ≡ true → Held false f x) → Held false f y → Held false f (cond b x y)
   held_cond true x y h g = h refl
   held_cond false x y h g = g
 
-  held_needs : (r : Inner) (k : ℕ → ℕ → Found) → ((a n : ℕ) → Held false m (k a n)) → Held false m (needed r k)
-  held_needs Inner.No k h = tt
-  held_needs (Inner.At a n) k h = h a n
+  held_needs : (r : Option (ℕ × ℕ)) (k : ℕ → ℕ → Option Field) → ((a n : ℕ) → Held false f (k a n)) → Held false f (needed r k)
+  held_needs None k h = tt
+  held_needs (Some (a, n)) k h = h a n
 
-  held_exactly : (r : Inner) (w : ℕ) (k : ℕ → Found) → ((a : ℕ) → Held false m (k a)) → Held false m (exactly r w k)
-  held_exactly Inner.No w k h = tt
-  held_exactly (Inner.At a n) w k h = held_cond (eqb n w) (k a) Found.No (λ _. h a) tt
+  held_exactly : (r : Option (ℕ × ℕ)) (w : ℕ) (k : ℕ → Option Field) → ((a : ℕ) → Held false f (k a)) → Held false f (exactly r w k)
+  held_exactly None w k h = tt
+  held_exactly (Some (a, n)) w k h = held_cond (eqb n w) (k a) None (λ _. h a) tt
 
-  held_perhaps : (r : Inner) (w : ℕ) (o : Found) (k : ℕ → Found) → Held false m o → ((a : ℕ) → Held false m (k a)) → Held false m (perhaps r w o k)
-  held_perhaps Inner.No w o k g h = g
-  held_perhaps (Inner.At a n) w o k g h = held_cond (eqb n w) (k a) Found.No (λ _. h a) tt
+  held_perhaps : (r : Option (ℕ × ℕ)) (w : ℕ) (o : Option Field) (k : ℕ → Option Field) → Held false f o → ((a : ℕ) → Held false f (k a)) → Held false f (perhaps r w o k)
+  held_perhaps None w o k g h = g
+  held_perhaps (Some (a, n)) w o k g h = held_cond (eqb n w) (k a) None (λ _. h a) tt
 
-  held_stamp : (t : Time) (c : MaybeContext) → Held false m (stamp_found t c)
-  held_stamp t MaybeContext.None = tt
-  held_stamp t (MaybeContext.Some c) = (refl, tt)
+  held_stamp : (t : Time) (c : Option Context) → Held false f (stamp_found t c)
+  held_stamp t None = tt
+  held_stamp t (Some c) = (refl, tt)
 
-  held_state : (s : MaybeState) → Held false m (state_found s)
-  held_state MaybeState.None = tt
-  held_state (MaybeState.Some s) = (refl, tt)
+  held_state : (s : Option NewState) → Held false f (state_found s)
+  held_state None = tt
+  held_state (Some s) = (refl, tt)
 
-  held_config : (b c d : Bool) (x y : Found) → (b ≡ true → Held true m x) → (b ≡ true → Held true m y) → Held true m (cond b (cond c x (cond d y Found.No)) Found.No)
+  held_config : (b c d : Bool) (x y : Option Field) → (b ≡ true → Held true f x) → (b ≡ true → Held true f y) → Held true f (cond b (cond c x (cond d y None)) None)
   held_config true true d x y h g = h refl
   held_config true false true x y h g = g refl
   held_config true false false x y h g = tt
   held_config false c d x y h g = tt
 
 module _ (f : List ℕ) where
-  held_ends : (at : ℕ) (e : Logged) → (at ≡ length f → Placed (length f) e) → Held false (length f) (ends f at e)
-  held_ends at e h = held_cond (length f) (eqb at (length f)) (Found.Some e) Found.No (λ p. (refl, h (eqb-true at (length f) p))) tt
+  held_ends : (at : ℕ) (e : Event) → (at ≡ length f → Placed f e) → Held false f (ends f at e)
+  held_ends at e h = held_cond f (eqb at (length f)) (Some (Field.Event e)) None (λ p. (refl, h (eqb-true at (length f) p))) tt
 
-  of_event : Held false (length f) (event_of f)
+  of_event : Held false f (event_of f)
   unfolding event_of
   of_event =
-      held_exactly (length f) (inner_of f 3 1) 16 _ (λ a. held_needs (length f) (inner_of f (a + 16) 2) _ (λ b n.
-      held_cond (length f) (leb n 1024) _ Found.No (λ l. held_ends (b + n) (Logged.Event (time_at a f) b n) (λ p. (leb-true n 1024 l, p))) tt))
+      held_exactly f (inner_of f 3 1) 16 _ (λ a. held_needs f (inner_of f (a + 16) 2) _ (λ b n.
+      held_cond f (leb n 1024) _ None (λ l. held_ends (b + n) (event (time_at a f) (take n (drop b f))) (λ p. message f b n (leb-true n 1024 l) p)) tt))
 
-  of_general : Held false (length f) (general_of f)
+  of_general : Held false f (general_of f)
   unfolding general_of
   of_general =
-      held_needs (length f) (inner_of f 3 2) _ (λ b n.
-      held_cond (length f) (leb n 1024) _ Found.No (λ l. held_ends (b + n) (Logged.General b n) (λ p. (leb-true n 1024 l, p))) tt)
+      held_needs f (inner_of f 3 2) _ (λ b n.
+      held_cond f (leb n 1024) _ None (λ l. held_ends (b + n) (general (take n (drop b f))) (λ p. message f b n (leb-true n 1024 l) p)) tt)
 
-  of_stamp : Held false (length f) (stamp_of f)
+  of_stamp : Held false f (stamp_of f)
   unfolding stamp_of
   of_stamp =
-      held_exactly (length f) (inner_of f 3 1) 16 _ (λ a. held_needs (length f) (inner_of f (a + 16) 3) _ (λ b n.
-      held_cond (length f) (eqb (b + n) (length f)) _ Found.No (λ _. held_stamp (length f) (time_at a f) (context_at b n f)) tt))
+      held_exactly f (inner_of f 3 1) 16 _ (λ a. held_needs f (inner_of f (a + 16) 3) _ (λ b n.
+      held_cond f (eqb (b + n) (length f)) _ None (λ _. held_stamp f (time_at a f) (context_at b n f)) tt))
 
-  of_sync : Held false (length f) (sync_timer_of f)
+  of_sync : Held false f (sync_timer_of f)
   unfolding sync_timer_of
-  of_sync = held_ends 3 Logged.SyncTimer (λ _. tt)
+  of_sync = held_ends 3 sync_timer (λ _. tt)
 
-  of_delay : Held false (length f) (delay_timer_of f)
+  of_delay : Held false f (delay_timer_of f)
   unfolding delay_timer_of
-  of_delay = held_exactly (length f) (inner_of f 3 4) 8 _ (λ a. held_ends (a + 8) (Logged.DelayTimer (number a 8 f)) (λ _. tt))
+  of_delay = held_exactly f (inner_of f 3 4) 8 _ (λ a. held_ends (a + 8) (delay_timer (number a 8 f)) (λ _. tt))
 
-  of_update : (at : ℕ) (mean : MaybeDuration) → Held false (length f) (update_of f at mean)
+  of_update : (at : ℕ) (mean : Option Duration) → Held false f (update_of f at mean)
   unfolding update_of
-  of_update at mean = held_perhaps (length f) (inner_of f at 6) 8 _ _ (held_ends at (Logged.FilterAnswer _) (λ _. tt)) (λ b. held_ends (b + 8) (Logged.FilterAnswer _) (λ _. tt))
+  of_update at mean = held_perhaps f (inner_of f at 6) 8 _ _ (held_ends at (filter_answer _) (λ _. tt)) (λ b. held_ends (b + 8) (filter_answer _) (λ _. tt))
 
-  of_filter : Held false (length f) (filter_of f)
+  of_filter : Held false f (filter_of f)
   unfolding filter_of
-  of_filter = held_perhaps (length f) (inner_of f 3 5) 16 _ _ (of_update 3 MaybeDuration.None) (λ a. of_update (a + 16) (MaybeDuration.Some (duration_at a f)))
+  of_filter = held_perhaps f (inner_of f 3 5) 16 _ _ (of_update 3 None) (λ a. of_update (a + 16) (Some (duration_at a f)))
 
-  of_state : Held false (length f) (set_state_of f)
+  of_state : Held false f (set_state_of f)
   unfolding set_state_of
   of_state =
-      held_needs (length f) (inner_of f 3 7) _ (λ b n. held_cond (length f) (eqb (b + n) (length f)) _ Found.No (λ _. held_state (length f) (state_at b n f)) tt)
+      held_needs f (inner_of f 3 7) _ (λ b n. held_cond f (eqb (b + n) (length f)) _ None (λ _. held_state f (state_at b n f)) tt)
 
-  of_config : Held true (length f) (config_of f)
+  of_config : Held true f (config_of f)
   unfolding config_of
   of_config =
-      held_config (length f) (eqb (length f) 36) (eqb (number 17 1 f) 0) (eqb (number 17 1 f) 1) (Found.Config (config_with Mechanism.EndToEnd f)) (Found.Config (config_with Mechanism.Peer f))
+      held_config f (eqb (length f) 36) (eqb (number 17 1 f) 0) (eqb (number 17 1 f) 1) (Some (Field.Config (config_with Mechanism.EndToEnd f))) (Some (Field.Config (config_with Mechanism.Peer f)))
       (λ p. (refl, eqb-true (length f) 36 p)) (λ p. (refl, eqb-true (length f) 36 p))
 
-  of_first : (tag : ℕ) → Held true (length f) (field_of true tag f)
+  of_first : (tag : ℕ) → Held true f (field_of true tag f)
   unfolding field_of
   of_first tag = by (eqb tag 0x0F)
     where
-      by : (b : Bool) → Held true (length f) (cond b (config_of f) Found.No)
+      by : (b : Bool) → Held true f (cond b (config_of f) None)
       by true = of_config
       by false = tt
 
-  of_later : (tag : ℕ) → Held false (length f) (field_of false tag f)
+  of_later : (tag : ℕ) → Held false f (field_of false tag f)
   unfolding field_of
   of_later tag =
-      held_cond (length f) (eqb tag 0x10) _ _ (λ _. of_event)
-      (held_cond (length f) (eqb tag 0x11) _ _ (λ _. of_general)
-      (held_cond (length f) (eqb tag 0x12) _ _ (λ _. of_stamp)
-      (held_cond (length f) (eqb tag 0x13) _ _ (λ _. of_sync)
-      (held_cond (length f) (eqb tag 0x14) _ _ (λ _. of_delay)
-      (held_cond (length f) (eqb tag 0x15) _ _ (λ _. of_filter)
-      (held_cond (length f) (eqb tag 0x16) _ _ (λ _. of_state) tt))))))
+      held_cond f (eqb tag 0x10) _ _ (λ _. of_event)
+      (held_cond f (eqb tag 0x11) _ _ (λ _. of_general)
+      (held_cond f (eqb tag 0x12) _ _ (λ _. of_stamp)
+      (held_cond f (eqb tag 0x13) _ _ (λ _. of_sync)
+      (held_cond f (eqb tag 0x14) _ _ (λ _. of_delay)
+      (held_cond f (eqb tag 0x15) _ _ (λ _. of_filter)
+      (held_cond f (eqb tag 0x16) _ _ (λ _. of_state) tt))))))
 
-  held : (first : Bool) (tag : ℕ) → Held first (length f) (field_of first tag f)
+  held : (first : Bool) (tag : ℕ) → Held first f (field_of first tag f)
   held true tag = of_first tag
   held false tag = of_later tag
 
@@ -146,16 +155,16 @@ module _ (f : List ℕ) where
 
 abbrev pub Front : Bool → List ℕ → Bool → Next → Type 0
 Front f s last (Next.Config c) = (f ≡ true) × (36 ≤ length s)
-Front f s last (Next.Event e n) = ((f ≡ false) × Placed n e) × ((3 ≤ n) × (n ≤ length s))
+Front f s last (Next.Event e n) = ((f ≡ false) × Placed (take n s) e) × ((3 ≤ n) × (n ≤ length s))
 Front f s last Next.More = (last ≡ false) × (length s < 1049)
 Front f s last Next.End = ((last ≡ true) × (f ≡ false)) × (length s ≡ 0)
 Front f s last Next.Bad = Unit {0}
 
 module _ (f : Bool) (s : List ℕ) where
-  known_seen : (last : Bool) (n : ℕ) (w : Found) → 3 + n ≤ length s → Held f (3 + n) w → Front f s last (seen (3 + n) w)
-  known_seen last n Found.No h g = tt
-  known_seen last n (Found.Config c) h (p, q) = (p, omega (arith, h, q))
-  known_seen last n (Found.Some e) h g = (g, (omega arith, h))
+  known_seen : (last : Bool) (n : ℕ) (w : Option Field) → 3 + n ≤ length s → Held f (take (3 + n) s) w → Front f s last (seen (3 + n) w)
+  known_seen last n None h g = tt
+  known_seen last n (Some (Field.Config c)) h (p, q) = (p, omega (arith, h, q, length-take-le (3 + n) s h))
+  known_seen last n (Some (Field.Event e)) h g = (g, (omega arith, h))
 
   known_none : (first last : Bool) → f ≡ first → length s ≡ 0 → Front f s last (none_of first last)
   unfolding none_of
@@ -172,8 +181,8 @@ module _ (f : Bool) (s : List ℕ) where
       by true p = (refl, omega (arith, h, possible_small n f tag p))
       by false p = tt
 
-  whole : (n tag : ℕ) → 3 + n ≤ length s → Held f (3 + n) (field_of f tag (take (3 + n) s))
-  whole n tag h = subst (λ (m : ℕ). Held f m (field_of f tag (take (3 + n) s))) (length-take-le (3 + n) s h) (held (take (3 + n) s) f tag)
+  whole : (n tag : ℕ) → Held f (take (3 + n) s) (field_of f tag (take (3 + n) s))
+  whole n tag = held (take (3 + n) s) f tag
 
   pub front : (last : Bool) → Front f s last (front_of f s last)
   unfolding front_of
@@ -183,7 +192,7 @@ module _ (f : Bool) (s : List ℕ) where
       by true c p q = known_none f last refl (eqb-true (length s) 0 p)
       by false true p q =
           known_seen last (stated_of s) (field_of f (number 0 1 s) (take (3 + stated_of s) s)) (leb-true (3 + stated_of s) (length s) q)
-          (whole (stated_of s) (number 0 1 s) (leb-true (3 + stated_of s) (length s) q))
+          (whole (stated_of s) (number 0 1 s))
       by false false p q = known_cut last (number 0 1 s) (stated_of s) (leb-false (3 + stated_of s) (length s) q)
 
 -- ---- more bytes behind
@@ -226,7 +235,7 @@ module _ (f : Bool) (s t : List ℕ) (last : Bool) where
   tag_same h = sym (number_inside s t 0 1 (omega (arith, h)))
 
   -- a whole field stays as it is
-  whole_more : (n : ℕ) (w : Found) → (length s ≡ 0 → ⊥) → n ≡ stated_of s → 3 + n ≤ length s → w ≡ field_of f (number 0 1 s) (take (3 + n) s) → front_of f (s ++ t) last ≡ seen (3 + n) w
+  whole_more : (n : ℕ) (w : Option Field) → (length s ≡ 0 → ⊥) → n ≡ stated_of s → 3 + n ≤ length s → w ≡ field_of f (number 0 1 s) (take (3 + n) s) → front_of f (s ++ t) last ≡ seen (3 + n) w
   whole_more n w h e g p =
       sym (front_whole f last (s ++ t) (number 0 1 s) n w (tag_same h) (longer h) (e ∙ stated_same s t (omega arith)) (omega (arith, length-append s t))
       (p ∙ ap (field_of f (number 0 1 s)) (sym (take-append-le (3 + n) s t g))))
@@ -243,13 +252,13 @@ module _ (f : Bool) (s t : List ℕ) (last : Bool) where
           sym (front_cut f last (s ++ t) (number 0 1 s) (stated_of (s ++ t)) Next.Bad (tag_same h) (longer h) refl (leb-false (3 + stated_of (s ++ t)) (length (s ++ t)) p)
           (bad_cut f (number 0 1 s) (stated_of (s ++ t)) last no))
       by true p =
-          sym (front_whole f last (s ++ t) (number 0 1 s) (stated_of (s ++ t)) Found.No (tag_same h) (longer h) refl (leb-true (3 + stated_of (s ++ t)) (length (s ++ t)) p)
+          sym (front_whole f last (s ++ t) (number 0 1 s) (stated_of (s ++ t)) None (tag_same h) (longer h) refl (leb-true (3 + stated_of (s ++ t)) (length (s ++ t)) p)
           (sym (impossible (take (3 + stated_of (s ++ t)) (s ++ t)) (stated_of (s ++ t)) (length-take-le (3 + stated_of (s ++ t)) (s ++ t) (leb-true (3 + stated_of (s ++ t)) (length (s ++ t)) p)) f (number 0 1 s) no)))
 
-  steady_seen : (n : ℕ) (w : Found) → front_of f (s ++ t) last ≡ seen n w → Steady (seen n w) f s t last
-  steady_seen n Found.No e = e
-  steady_seen n (Found.Config c) e = e
-  steady_seen n (Found.Some x) e = e
+  steady_seen : (n : ℕ) (w : Option Field) → front_of f (s ++ t) last ≡ seen n w → Steady (seen n w) f s t last
+  steady_seen n None e = e
+  steady_seen n (Some (Field.Config c)) e = e
+  steady_seen n (Some (Field.Event x)) e = e
 
   steady_cut : (length s ≡ 0 → ⊥) → Steady (cut_of f (number 0 1 s) (stated_of s) false) f s t last
   unfolding cut_of

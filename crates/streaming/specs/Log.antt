@@ -1,21 +1,9 @@
 -- Document 01, 'Event log': a whole log. Its bytes as the configuration, the events in their order, and how it ends.
-use Rattle.std.specs.Prelude.{ℕ, zero, suc, ◌+◌, ◌-◌, Bool, true, false, List, [], ◌∷◌, take, drop}
-use Rattle.std.proofs.Math.Option.{Option, none, some}
+use Rattle.std.specs.Prelude.{ℕ, zero, suc, ◌+◌, ◌-◌, Bool, true, false, List, [], ◌∷◌, Option, Some, None}
 use Rattle.record.specs.declared.Config.{Config}
-use Rattle.rules.specs.Events.{Event, event, general, stamp, sync_timer, delay_timer, filter_answer, set_state}
-use Rattle.event_log.specs.declared.Logged.{Logged}
-use Rattle.event_log.specs.declared.Next.{Next}
+use Rattle.rules.specs.Events.{Event}
+use Rattle.event_log.specs.Told.{Next}
 use Rattle.event_log.specs.Fields.{front_of}
-
--- the event that a field f holds, with its message's bytes
-abbrev pub told : List ℕ → Logged → Event
-told f (Logged.Event t a n) = event t (take n (drop a f))
-told f (Logged.General a n) = general (take n (drop a f))
-told f (Logged.Stamp t c) = stamp t c
-told f Logged.SyncTimer = sync_timer
-told f (Logged.DelayTimer draw) = delay_timer draw
-told f (Logged.FilterAnswer u) = filter_answer u
-told f (Logged.SetState s) = set_state s
 
 -- ---- field after field
 
@@ -30,7 +18,7 @@ pub data Fields : Type 0 where
 -- what stands at the front of s, which begins at the offset `at`; behind a field of n bytes it goes on as `go n` says
 abbrev pub onward : Next → ℕ → Bool → List ℕ → (ℕ → Fields) → Fields
 onward (Next.Config c) at first s go = starts c 36 (go 36)
-onward (Next.Event e n) at first s go = next (told (take n s) e) n (go n)
+onward (Next.Event e n) at first s go = next e n (go n)
 onward Next.More at first s go = rest at first s
 onward Next.End at first s go = good
 onward Next.Bad at first s go = bad at
@@ -59,10 +47,10 @@ pub record Log : Type 0 where
   pub ending : Ending
 
 abbrev pub ended : Ending → Log
-ended x = record { configuration = none; events = []; ending = x }
+ended x = record { configuration = None; events = []; ending = x }
 
 unfoldable pub gathered : Fields → Log
-gathered (starts c n l) = record { configuration = some c; events = (gathered l).events; ending = (gathered l).ending }
+gathered (starts c n l) = record { configuration = Some c; events = (gathered l).events; ending = (gathered l).ending }
 gathered (next e n l) =
     record { configuration = (gathered l).configuration; events = e ∷ (gathered l).events; ending = (gathered l).ending }
 gathered good = ended end

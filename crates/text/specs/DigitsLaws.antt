@@ -165,5 +165,5 @@ hex_of_next {d} {to} {x} {e} {k} s i h g p =
 -- at the end of s nothing is left
 pub hex_of_done : {d : List ℕ} {at : ℕ} {e : List ℕ} {k : ℕ} (s : List ℕ) (i : ℕ)
     → length s ≤ i → typed (page e k) (hex_of (drop i s)) ≡ typed (page d at) (hex_of s) → Wrote d at (hex_of s) e k
-unfolding typed hex_of
+unfolding hex_of
 hex_of_done {d} {at} {e} {k} s i h p = record { text = sym (ap (λ (l : List ℕ). typed (page e k) (hex_of l)) (drop_of_length-le s h)) ∙ p }

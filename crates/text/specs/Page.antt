@@ -13,7 +13,7 @@ unfoldable pub typed_one : Page → ℕ → Page
 typed_one p x = cond (ltb p.at (length p.bytes)) (page (set p.bytes p.at x) (p.at + 1)) p
 
 -- one after another
-unfoldable pub typed : Page → List ℕ → Page
+abbrev pub typed : Page → List ℕ → Page
 typed p [] = p
 typed p (x ∷ w) = typed (typed_one p x) w
 

@@ -6,7 +6,6 @@ use Rattle.std.proofs.lemmas.List.{set_comm}
 use Rattle.text.specs.Page.{Page, page, typed_one, typed, Wrote}
 
 pub typed_append : (p : Page) (a b : List ℕ) → typed p (a ++ b) ≡ typed (typed p a) b
-unfolding typed
 typed_append p [] b = refl
 typed_append p (x ∷ a) b = typed_append (typed_one p x) a b
 
@@ -19,21 +18,19 @@ length_one p x = by (ltb p.at (length p.bytes))
     by false = refl
 
 pub length-typed : (p : Page) (w : List ℕ) → length (typed p w).bytes ≡ length p.bytes
-unfolding typed
 length-typed p [] = refl
 length-typed p (x ∷ w) = length-typed (typed_one p x) w ∙ length_one p x
 
 -- one byte, where there is room for it and where there is none
 pub wrote_byte : (d : List ℕ) (at x : ℕ) → at < length d → Wrote d at (x ∷ []) (set d at x) (at + 1)
-unfolding typed typed_one
+unfolding typed_one
 wrote_byte d at x h = record { text = simp (lt-ltb at (length d) h) }
 
 pub wrote_full : (d : List ℕ) (at x : ℕ) → length d ≤ at → Wrote d at (x ∷ []) d at
-unfolding typed typed_one
+unfolding typed_one
 wrote_full d at x h = record { text = simp (le-ltb at (length d) h) }
 
 pub wrote_nothing : {d : List ℕ} {at : ℕ} → Wrote d at [] d at
-unfolding typed
 wrote_nothing {d} {at} = record { text = refl }
 
 module _ {d : List ℕ} {at : ℕ} {w e : List ℕ} {k : ℕ} where
@@ -49,8 +46,7 @@ module _ {d : List ℕ} {at : ℕ} {w e : List ℕ} {k : ℕ} where
   wrote_same p = ap (λ (x : Page). length x.bytes) p.text ∙ length-typed (page d at) w
 
 -- a text that fits stands whole behind what was written before, and what lies behind it is as it was
-typed-sets : (w d : List ℕ) (at : ℕ) → at + length w ≤ length d → typed (page d at) w ≡ page (sets d at w) (at + length w)
-unfolding typed
+pub typed-sets : (w d : List ℕ) (at : ℕ) → at + length w ≤ length d → typed (page d at) w ≡ page (sets d at w) (at + length w)
 typed-sets [] d at h = ap (λ (k : ℕ). page d k) (omega arith)
 typed-sets (x ∷ w) d at h =
     let room : at < length d = omega arith in
@@ -97,5 +93,4 @@ typed_next {d} {to} {x} {e} {k} s i h g p =
 -- at the end of s nothing is left
 pub typed_done : {d : List ℕ} {at : ℕ} {e : List ℕ} {k : ℕ} (s : List ℕ) (i : ℕ)
     → length s ≤ i → typed (page e k) (drop i s) ≡ typed (page d at) s → Wrote d at s e k
-unfolding typed
 typed_done {d} {at} {e} {k} s i h p = record { text = sym (ap (λ (l : List ℕ). typed (page e k) l) (drop_of_length-le s h)) ∙ p }

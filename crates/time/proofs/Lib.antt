@@ -1,4 +1,2 @@
 -- Lemmas that several of the functions' proofs cite.
-mod Digits
-mod Checked
-mod Sums
+pub mod Machine

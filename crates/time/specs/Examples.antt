@@ -1,11 +1,7 @@
 -- Worked examples, each computed: those of document 01 and the ends of each range. One unit is 2 ^ -32 ns.
-use Rattle.std.specs.Prelude.{◌≡◌, refl, ◌+◌, ◌-◌, ◌*◌, ◌^◌, pos, neg_ℤ, ◌+ℤ◌, ◌-ℤ◌}
-use Rattle.time.specs.declared.TimeAnswer.TheVariants as T
-use Rattle.time.specs.declared.DurationAnswer.TheVariants as D
-use Rattle.time.specs.declared.WordsAnswer.TheVariants as O
-use Rattle.time.specs.declared.ReadAnswer.TheVariants as R
-use Rattle.time.specs.declared.WireAnswer.TheVariants as W
+use Rattle.std.specs.Prelude.{◌≡◌, refl, ◌+◌, ◌-◌, ◌*◌, ◌^◌, pos, neg_ℤ, ◌+ℤ◌, ◌-ℤ◌, None, Ok, Err}
 use Rattle.time.specs.Units.{in_time, time_of, time_of_words, signed, duration, in_duration, duration_of, wire, time_of_wire, wire_of, correction, half}
+use Rattle.time.specs.declared.TimeError.{TimeError}
 
 -- ---- halves (01's example H, and the lowest duration)
 
@@ -35,39 +31,39 @@ half_lowest = refl
 
 -- ---- the ends of the ranges
 
-last_time : time_of (pos (2 ^ 127 - 1)) ≡ T.Value (record { hi = 2 ^ 63 - 1; lo = 2 ^ 64 - 1 })
+last_time : time_of (pos (2 ^ 127 - 1)) ≡ Ok (record { hi = 2 ^ 63 - 1; lo = 2 ^ 64 - 1 })
 unfolding time_of in_time
 last_time = refl
 
-past_the_last_time : time_of (pos (2 ^ 127)) ≡ T.Out
+past_the_last_time : time_of (pos (2 ^ 127)) ≡ Err TimeError.OutOfRange
 unfolding time_of in_time
 past_the_last_time = refl
 
-first_time : time_of (pos 0) ≡ T.Value (record { hi = 0; lo = 0 })
+first_time : time_of (pos 0) ≡ Ok (record { hi = 0; lo = 0 })
 unfolding time_of in_time
 first_time = refl
 
-before_the_first_time : time_of (neg_ℤ (pos 1)) ≡ T.Out
+before_the_first_time : time_of (neg_ℤ (pos 1)) ≡ Err TimeError.OutOfRange
 unfolding time_of in_time
 before_the_first_time = refl
 
-no_time : time_of_words (2 ^ 63) 0 ≡ O.NoTime
+no_time : time_of_words (2 ^ 63) 0 ≡ None
 unfolding time_of_words in_time
 no_time = refl
 
-last_duration : duration_of (pos (2 ^ 127 - 1)) ≡ D.Value (record { hi = 2 ^ 63 - 1; lo = 2 ^ 64 - 1 })
+last_duration : duration_of (pos (2 ^ 127 - 1)) ≡ Ok (record { hi = 2 ^ 63 - 1; lo = 2 ^ 64 - 1 })
 unfolding duration_of in_duration
 last_duration = refl
 
-past_the_last_duration : duration_of (pos (2 ^ 127)) ≡ D.Out
+past_the_last_duration : duration_of (pos (2 ^ 127)) ≡ Err TimeError.OutOfRange
 unfolding duration_of in_duration
 past_the_last_duration = refl
 
-lowest_duration : duration_of (neg_ℤ (pos (2 ^ 127))) ≡ D.Value (record { hi = 2 ^ 63; lo = 0 })
+lowest_duration : duration_of (neg_ℤ (pos (2 ^ 127))) ≡ Ok (record { hi = 2 ^ 63; lo = 0 })
 unfolding duration_of in_duration
 lowest_duration = refl
 
-below_the_lowest_duration : duration_of (neg_ℤ (pos (2 ^ 127)) -ℤ pos 1) ≡ D.Out
+below_the_lowest_duration : duration_of (neg_ℤ (pos (2 ^ 127)) -ℤ pos 1) ≡ Err TimeError.OutOfRange
 unfolding duration_of in_duration
 below_the_lowest_duration = refl
 
@@ -81,25 +77,25 @@ minus_one_correction : correction (2 ^ 64 - 1) ≡ neg_ℤ (pos 65536)
 unfolding correction signed
 minus_one_correction = refl
 
-down_to_zero : time_of (pos (2 ^ 79) +ℤ correction (2 ^ 63)) ≡ T.Value (record { hi = 0; lo = 0 })
+down_to_zero : time_of (pos (2 ^ 79) +ℤ correction (2 ^ 63)) ≡ Ok (record { hi = 0; lo = 0 })
 unfolding time_of in_time correction signed
 down_to_zero = refl
 
-below_zero : time_of (pos (2 ^ 79 - 1) +ℤ correction (2 ^ 63)) ≡ T.Out
+below_zero : time_of (pos (2 ^ 79 - 1) +ℤ correction (2 ^ 63)) ≡ Err TimeError.OutOfRange
 unfolding time_of in_time correction signed
 below_zero = refl
 
-up_to_the_last : time_of (pos (2 ^ 127 - 1 - 2 ^ 79) -ℤ correction (2 ^ 63)) ≡ T.Value (record { hi = 2 ^ 63 - 1; lo = 2 ^ 64 - 1 })
+up_to_the_last : time_of (pos (2 ^ 127 - 1 - 2 ^ 79) -ℤ correction (2 ^ 63)) ≡ Ok (record { hi = 2 ^ 63 - 1; lo = 2 ^ 64 - 1 })
 unfolding time_of in_time correction signed
 up_to_the_last = refl
 
-past_the_last : time_of (pos (2 ^ 127 - 2 ^ 79) -ℤ correction (2 ^ 63)) ≡ T.Out
+past_the_last : time_of (pos (2 ^ 127 - 2 ^ 79) -ℤ correction (2 ^ 63)) ≡ Err TimeError.OutOfRange
 unfolding time_of in_time correction signed
 past_the_last = refl
 
 -- ---- wire timestamps: 999,999,999 and 1,000,000,000 nanoseconds are each the number they are, and the second is sent as a second
 
-below_a_second : time_of_wire (record { seconds = 5; nanos = 999999999 }) ≡ R.Value (record { hi = 1; lo = 5999999999 * 2 ^ 32 - 2 ^ 64 })
+below_a_second : time_of_wire (record { seconds = 5; nanos = 999999999 }) ≡ Ok (record { hi = 1; lo = 5999999999 * 2 ^ 32 - 2 ^ 64 })
 unfolding time_of_wire wire
 below_a_second = refl
 
@@ -107,22 +103,22 @@ a_second : time_of_wire (record { seconds = 5; nanos = 1000000000 }) ≡ time_of
 unfolding time_of_wire wire
 a_second = refl
 
-sent_with_its_fraction : wire_of (pos (5999999999 * 2 ^ 32 + 0xabcd_ef01)) ≡ W.Value (record { seconds = 5; nanos = 999999999 }) 0xabcd
+sent_with_its_fraction : wire_of (pos (5999999999 * 2 ^ 32 + 0xabcd_ef01)) ≡ Ok (record { seconds = 5; nanos = 999999999 }, 0xabcd)
 unfolding wire_of
 sent_with_its_fraction = refl
 
-last_second : time_of_wire (record { seconds = 2 ^ 48 - 1; nanos = 0 }) ≡ R.Value (record { hi = 65535999999999; lo = 2 ^ 64 - 1000000000 * 2 ^ 32 })
+last_second : time_of_wire (record { seconds = 2 ^ 48 - 1; nanos = 0 }) ≡ Ok (record { hi = 65535999999999; lo = 2 ^ 64 - 1000000000 * 2 ^ 32 })
 unfolding time_of_wire wire
 last_second = refl
 
-past_the_last_second : time_of_wire (record { seconds = 2 ^ 48; nanos = 0 }) ≡ R.Seconds
+past_the_last_second : time_of_wire (record { seconds = 2 ^ 48; nanos = 0 }) ≡ Err TimeError.OutOfRange
 unfolding time_of_wire wire
 past_the_last_second = refl
 
-last_sent : wire_of (pos (2 ^ 48 * 10 ^ 9 * 2 ^ 32 - 1)) ≡ W.Value (record { seconds = 2 ^ 48 - 1; nanos = 999999999 }) 0xffff
+last_sent : wire_of (pos (2 ^ 48 * 10 ^ 9 * 2 ^ 32 - 1)) ≡ Ok (record { seconds = 2 ^ 48 - 1; nanos = 999999999 }, 0xffff)
 unfolding wire_of
 last_sent = refl
 
-not_sent : wire_of (pos (2 ^ 48 * 10 ^ 9 * 2 ^ 32)) ≡ W.Out
+not_sent : wire_of (pos (2 ^ 48 * 10 ^ 9 * 2 ^ 32)) ≡ Err TimeError.OutOfRange
 unfolding wire_of
 not_sent = refl

@@ -1,5 +1,5 @@
--- Laws of times, durations and wire timestamps, for callers to cite, so that none opens a definition: a sum's value, its range, what `Out` means, and that equal meanings are equal words. `Timers` has its laws in `TimerLaws`.
-use Rattle.std.specs.Prelude.{◌≡◌, refl, Bool, true, false, cond, leb, ltb, ℤ, pos, negsuc, neg_ℤ, ◌-ℤ◌}
+-- Laws of times, durations and wire timestamps, for callers to cite, so that none opens a definition: a sum's value, its range, what `OutOfRange` means, and that equal meanings are equal words. `Timers` has its laws in `TimerLaws`.
+use Rattle.std.specs.Prelude.{◌≡◌, refl, Bool, true, false, cond, leb, ltb, ℤ, pos, negsuc, neg_ℤ, ◌-ℤ◌, Result, Ok, Err}
 use Rattle.std.proofs.Common.{sym, ◌∙◌, subst, arith, mod-lt, lt_trans, le_trans, lt_of_le_of_lt, le_of_suc-le-suc, le-add_right, mul-le-mul_right, lit<, shr_lt}
 use Rattle.std.proofs.Math.Path.{ap}
 use Rattle.std.proofs.lemmas.Bool.{false≢true}
@@ -13,11 +13,10 @@ use Rattle.std.proofs.Math.IntN.{sub_ℕ}
 use Rattle.std.specs.Int.Signed.{mag}
 use borrow.Author.Tests.{lt-ltb, le-ltb, ltb-true}
 use Rattle.time.specs.declared.Time.{Time}
-use Rattle.time.specs.declared.TimeAnswer.TheVariants as T
 use Rattle.time.specs.declared.Duration.{Duration}
-use Rattle.time.specs.declared.DurationAnswer.TheVariants as D
 use Rattle.time.specs.Units.{spelled, time, in_time, time_words, time_of, signed, duration, in_duration, spelling, duration_words, duration_of, half, half_of}
 use Rattle.time.specs.Lemmas.Integers.{not_below, sub_ge, sub_lt, pos_minus}
+use Rattle.time.specs.declared.TimeError.{TimeError}
 
 -- An answer that a test picks, a value or a refusal: what was answered tells the test.
 module _ {X A : Type 0} (value : X → A) (out : A) (same : (v w : X) → value v ≡ value w → v ≡ w) (differ : (v : X) → value v ≡ out → ⊥) where
@@ -41,11 +40,11 @@ unfolding in_time
 not_below_zero n = refl
 
 -- in its range a sum is answered, and out of it it is not
-pub time_in : (z : ℤ) → in_time z ≡ true → time_of z ≡ T.Value (time_words z)
+pub time_in : (z : ℤ) → in_time z ≡ true → time_of z ≡ Ok (time_words z)
 unfolding time_of
 time_in z h = simp h
 
-pub time_out : (z : ℤ) → in_time z ≡ false → time_of z ≡ T.Out
+pub time_out : (z : ℤ) → in_time z ≡ false → time_of z ≡ Err TimeError.OutOfRange
 unfolding time_of
 time_out z h = simp h
 
@@ -65,18 +64,18 @@ pub record IsTime (z : ℤ) (t : Time) : Type 0 where
   pub hi : t.hi < 2 ^ 63
   pub lo : t.lo < 2 ^ 64
 
-same_time : (a b : Time) → T.Value a ≡ T.Value b → a ≡ b
+same_time : (a b : Time) → ◌≡◌ {A = Result Time TimeError} (Ok a) (Ok b) → a ≡ b
 same_time a b e = cc
 
-no_time : (t : Time) → T.Value t ≡ T.Out → ⊥
+no_time : (t : Time) → Ok t ≡ Err TimeError.OutOfRange → ⊥
 no_time t e =
     let y : ◌≡◌ {A = ℕ} 0 1 = cc in
     omega arith
 
-pub time_is : (z : ℤ) (t : Time) → time_of z ≡ T.Value t → IsTime z t
+pub time_is : (z : ℤ) (t : Time) → time_of z ≡ Ok t → IsTime z t
 unfolding time_of
 time_is z t e =
-    let g : (in_time z ≡ true) × (time_words z ≡ t) = was_value T.Value T.Out same_time no_time (in_time z) (time_words z) t e in
+    let g : (in_time z ≡ true) × (time_words z ≡ t) = was_value Ok (Err TimeError.OutOfRange) same_time no_time (in_time z) (time_words z) t e in
     record {
       value = ap time (sym g.1) ∙ time_words_lem z g.0;
       within = g.0;
@@ -84,10 +83,10 @@ time_is z t e =
       lo = subst (λ (u : Time). u.lo < 2 ^ 64) g.1 (mod-lt _ (lit< tt));
     }
 
--- `Out` is answered only out of the range
-pub time_out_is : (z : ℤ) → time_of z ≡ T.Out → in_time z ≡ false
+-- `OutOfRange` is answered only out of the range
+pub time_out_is : (z : ℤ) → time_of z ≡ Err TimeError.OutOfRange → in_time z ≡ false
 unfolding time_of
-time_out_is z e = was_refused T.Value T.Out same_time no_time (in_time z) (time_words z) e
+time_out_is z e = was_refused Ok (Err TimeError.OutOfRange) same_time no_time (in_time z) (time_words z) e
 
 -- two words with no top bit, or with one
 pub below_half : (h l : ℕ) → h < 2 ^ 63 → l < 2 ^ 64 → spelled h l < 2 ^ 127
@@ -103,9 +102,9 @@ below_whole h l p q = digits_lt {q = h} {m = 2 ^ 64} {r = l} {c = 2 ^ 64} p q
 pub time_words_back : (h l : ℕ) → l < 2 ^ 64 → time_words (pos (spelled h l)) ≡ record { hi = h; lo = l }
 time_words_back h l q = λ i. record { hi = high h 64 q i; lo = low h 64 q i }
 
-pub time_back : (t : Time) → t.lo < 2 ^ 64 → in_time (time t) ≡ true → time_of (time t) ≡ T.Value t
+pub time_back : (t : Time) → t.lo < 2 ^ 64 → in_time (time t) ≡ true → time_of (time t) ≡ Ok t
 unfolding time
-time_back t q h = time_in (time t) h ∙ ap T.Value (time_words_back t.hi t.lo q)
+time_back t q h = time_in (time t) h ∙ ap Ok (time_words_back t.hi t.lo q)
 
 pub time_unique : (a b : Time) → a.lo < 2 ^ 64 → b.lo < 2 ^ 64 → time a ≡ time b → a ≡ b
 unfolding time
@@ -120,11 +119,11 @@ unfolding in_duration
 in_duration_lem (pos n) = sym (leb-suc-suc n (2 ^ 127 - 1))
 in_duration_lem (negsuc n) = and-true (leb n (2 ^ 127 - 1)) ∙ sym (leb-suc-suc n (2 ^ 127 - 1))
 
-pub duration_in : (z : ℤ) → in_duration z ≡ true → duration_of z ≡ D.Value (duration_words z)
+pub duration_in : (z : ℤ) → in_duration z ≡ true → duration_of z ≡ Ok (duration_words z)
 unfolding duration_of
 duration_in z h = simp h
 
-pub duration_out : (z : ℤ) → in_duration z ≡ false → duration_of z ≡ D.Out
+pub duration_out : (z : ℤ) → in_duration z ≡ false → duration_of z ≡ Err TimeError.OutOfRange
 unfolding duration_of
 duration_out z h = simp h
 
@@ -159,18 +158,18 @@ pub record IsDuration (z : ℤ) (d : Duration) : Type 0 where
   pub hi : d.hi < 2 ^ 64
   pub lo : d.lo < 2 ^ 64
 
-same_duration : (a b : Duration) → D.Value a ≡ D.Value b → a ≡ b
+same_duration : (a b : Duration) → ◌≡◌ {A = Result Duration TimeError} (Ok a) (Ok b) → a ≡ b
 same_duration a b e = cc
 
-no_duration : (d : Duration) → D.Value d ≡ D.Out → ⊥
+no_duration : (d : Duration) → Ok d ≡ Err TimeError.OutOfRange → ⊥
 no_duration d e =
     let y : ◌≡◌ {A = ℕ} 0 1 = cc in
     omega arith
 
-pub duration_is : (z : ℤ) (d : Duration) → duration_of z ≡ D.Value d → IsDuration z d
+pub duration_is : (z : ℤ) (d : Duration) → duration_of z ≡ Ok d → IsDuration z d
 unfolding duration_of
 duration_is z d e =
-    let g : (in_duration z ≡ true) × (duration_words z ≡ d) = was_value D.Value D.Out same_duration no_duration (in_duration z) (duration_words z) d e in
+    let g : (in_duration z ≡ true) × (duration_words z ≡ d) = was_value Ok (Err TimeError.OutOfRange) same_duration no_duration (in_duration z) (duration_words z) d e in
     record {
       value = ap duration (sym g.1) ∙ duration_words_lem z g.0;
       within = g.0;
@@ -178,9 +177,9 @@ duration_is z d e =
       lo = subst (λ (u : Duration). u.lo < 2 ^ 64) g.1 (mod-lt _ (lit< tt));
     }
 
-pub duration_out_is : (z : ℤ) → duration_of z ≡ D.Out → in_duration z ≡ false
+pub duration_out_is : (z : ℤ) → duration_of z ≡ Err TimeError.OutOfRange → in_duration z ≡ false
 unfolding duration_of
-duration_out_is z e = was_refused D.Value D.Out same_duration no_duration (in_duration z) (duration_words z) e
+duration_out_is z e = was_refused Ok (Err TimeError.OutOfRange) same_duration no_duration (in_duration z) (duration_words z) e
 
 -- any two words are a duration, which its units give back; so two durations of as many units are one
 module _ (d : Duration) (p : d.hi < 2 ^ 64) (q : d.lo < 2 ^ 64) where
@@ -191,28 +190,28 @@ module _ (d : Duration) (p : d.hi < 2 ^ 64) (q : d.lo < 2 ^ 64) where
   words_are m e =
       ap (λ (k : ℕ). record { hi = k / 2 ^ 64; lo = k % 2 ^ 64 }) e ∙ (λ i. record { hi = high d.hi 64 q i; lo = low d.hi 64 q i })
 
-  pub duration_back : duration_of (duration d) ≡ D.Value d
+  pub duration_back : duration_of (duration d) ≡ Ok d
   unfolding duration
   duration_back = go (dec_lt n (2 ^ 127))
     where
-      go : Dec (n < 2 ^ 127) → duration_of (signed 128 n) ≡ D.Value d
+      go : Dec (n < 2 ^ 127) → duration_of (signed 128 n) ≡ Ok d
       go (yes h) =
-          ap duration_of (signed_low 128 n h) ∙ duration_in (pos n) (in_duration_lem (pos n) ∙ lt-ltb n (2 ^ 127) h) ∙ ap D.Value (words_are n refl)
+          ap duration_of (signed_low 128 n h) ∙ duration_in (pos n) (in_duration_lem (pos n) ∙ lt-ltb n (2 ^ 127) h) ∙ ap Ok (words_are n refl)
       go (no h) =
           let m : ℕ = 2 ^ 128 - suc n in
           let whole : n < 2 ^ 128 = below_whole d.hi d.lo p q in
           let large : 2 ^ 127 ≤ n = not_below n (2 ^ 127) h in
           ap duration_of (signed_high 128 n large ∙ sub_lt n (2 ^ 128) whole)
           ∙ duration_in (negsuc m) (in_duration_lem (negsuc m) ∙ lt-ltb m (2 ^ 127) (comp_lt {n = n} {H = 2 ^ 127} large whole))
-          ∙ ap D.Value (words_are (2 ^ 128 - suc m) (comp_comp {n = n} {N = 2 ^ 128} whole))
+          ∙ ap Ok (words_are (2 ^ 128 - suc m) (comp_comp {n = n} {N = 2 ^ 128} whole))
 
   pub duration_within : in_duration (duration d) ≡ true
   duration_within = (duration_is (duration d) d duration_back).within
 
 pub duration_unique : (a b : Duration) → a.hi < 2 ^ 64 → a.lo < 2 ^ 64 → b.hi < 2 ^ 64 → b.lo < 2 ^ 64 → duration a ≡ duration b → a ≡ b
 duration_unique a b p q r s e =
-    let x : duration_of (duration a) ≡ D.Value a = duration_back a p q in
-    let y : duration_of (duration b) ≡ D.Value b = duration_back b r s in
+    let x : duration_of (duration a) ≡ Ok a = duration_back a p q in
+    let y : duration_of (duration b) ≡ Ok b = duration_back b r s in
     cc
 
 -- ---- what never leaves its range: the difference of two times, and a half
@@ -253,15 +252,15 @@ half_within z h =
     ∙ lt-ltb (mag (half z)) (2 ^ 127) (lt_of_le_of_lt (half-mag z) (ltb-true (mag z) (2 ^ 127) (sym (in_duration_lem z) ∙ h)))
 
 -- so the half of what a sum answered is the half of its value
-pub half_is : (z : ℤ) (d : Duration) → duration_of z ≡ D.Value d → duration_of (half z) ≡ D.Value (half_of d)
+pub half_is : (z : ℤ) (d : Duration) → duration_of z ≡ Ok d → duration_of (half z) ≡ Ok (half_of d)
 unfolding half_of
 half_is z d e =
     let a : IsDuration z d = duration_is z d e in
-    duration_in (half z) (half_within z a.within) ∙ ap (λ (y : ℤ). D.Value (duration_words (half y))) (sym a.value)
+    duration_in (half z) (half_within z a.within) ∙ ap (λ (y : ℤ). Ok (duration_words (half y))) (sym a.value)
 
 -- and a duration is the half of another exactly where its units are
 pub half_unique : (r d : Duration) → r.hi < 2 ^ 64 → r.lo < 2 ^ 64 → d.hi < 2 ^ 64 → d.lo < 2 ^ 64 → duration r ≡ half (duration d) → r ≡ half_of d
 half_unique r d p q h l e =
-    let x : duration_of (duration r) ≡ D.Value r = duration_back r p q in
-    let y : duration_of (half (duration d)) ≡ D.Value (half_of d) = half_is (duration d) d (duration_back d h l) in
+    let x : duration_of (duration r) ≡ Ok r = duration_back r p q in
+    let y : duration_of (half (duration d)) ≡ Ok (half_of d) = half_is (duration d) d (duration_back d h l) in
     cc

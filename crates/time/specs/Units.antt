@@ -1,21 +1,12 @@
 -- Document 01, 'Units', in its own order: what two words, a wire timestamp, a correction field and halving mean. One unit is 2 ^ -32 ns.
 -- Numbers of units stand in ℤ, or in ℕ where nothing is negative. `Timers` has the section's last part.
 -- From the library: `pos n` is n and `negsuc n` is -(n + 1); `cond t a b` is a where the test t is true, and b otherwise; `ltb`, `leb` and, in ℤ, `le_z` test an order; `quot_z` divides and drops what is left over, towards zero.
-use Rattle.std.specs.Prelude.{ℕ, suc, ◌+◌, ◌-◌, ◌*◌, ◌/◌, ◌%◌, ◌^◌, Bool, cond, ◌&&◌, ltb, ℤ, pos, negsuc, neg_ℤ, nat_abs, ◌-ℤ◌, ◌*ℤ◌}
+use Rattle.std.specs.Prelude.{ℕ, suc, ◌+◌, ◌-◌, ◌*◌, ◌/◌, ◌%◌, ◌^◌, Bool, cond, ◌&&◌, ltb, ℤ, pos, negsuc, neg_ℤ, nat_abs, ◌-ℤ◌, ◌*ℤ◌, Option, Some, None, Result, Ok, Err}
 use Rattle.std.specs.Int.Signed.{le_z, quot_z}
 use Rattle.time.specs.declared.Time.{Time}
 use Rattle.time.specs.declared.Duration.{Duration}
 use Rattle.time.specs.declared.WireTimestamp.{WireTimestamp}
-use Rattle.time.specs.declared.TimeAnswer.{TimeAnswer}
-use Rattle.time.specs.declared.TimeAnswer.TheVariants as T
-use Rattle.time.specs.declared.DurationAnswer.{DurationAnswer}
-use Rattle.time.specs.declared.DurationAnswer.TheVariants as D
-use Rattle.time.specs.declared.WordsAnswer.{WordsAnswer}
-use Rattle.time.specs.declared.WordsAnswer.TheVariants as O
-use Rattle.time.specs.declared.ReadAnswer.{ReadAnswer}
-use Rattle.time.specs.declared.ReadAnswer.TheVariants as R
-use Rattle.time.specs.declared.WireAnswer.{WireAnswer}
-use Rattle.time.specs.declared.WireAnswer.TheVariants as W
+use Rattle.time.specs.declared.TimeError.{TimeError}
 
 -- from the first number to the last, both of them included
 abbrev pub within : ℤ → ℤ → ℤ → Bool
@@ -33,16 +24,16 @@ time t = pos (spelled t.hi t.lo)
 unfoldable pub in_time : ℤ → Bool
 in_time z = within (pos 0) (pos (2 ^ 127 - 1)) z
 
--- the time of so many units, or `Out` where no time has as many
+-- the time of so many units, or `OutOfRange` where no time has as many
 abbrev pub time_words : ℤ → Time
 time_words z = record { hi = nat_abs z / 2 ^ 64; lo = nat_abs z % 2 ^ 64 }
 
-unfoldable pub time_of : ℤ → TimeAnswer
-time_of z = cond (in_time z) (T.Value (time_words z)) T.Out
+unfoldable pub time_of : ℤ → Result Time TimeError
+time_of z = cond (in_time z) (Ok (time_words z)) (Err TimeError.OutOfRange)
 
--- two words as a time, or `NoTime`
-unfoldable pub time_of_words : ℕ → ℕ → WordsAnswer
-time_of_words hi lo = cond (in_time (pos (spelled hi lo))) (O.Value (record { hi = hi; lo = lo })) O.NoTime
+-- two words as a time, or `None`
+unfoldable pub time_of_words : ℕ → ℕ → Option Time
+time_of_words hi lo = cond (in_time (pos (spelled hi lo))) (Some (record { hi = hi; lo = lo })) None
 
 -- ---- a duration: -2 ^ 127 to 2 ^ 127 - 1 units, its two words in two's complement
 
@@ -61,31 +52,31 @@ abbrev pub spelling : ℤ → ℕ
 spelling (pos n) = n
 spelling (negsuc n) = 2 ^ 128 - suc n
 
--- the duration of so many units, or `Out` where no duration has as many
+-- the duration of so many units, or `OutOfRange` where no duration has as many
 abbrev pub duration_words : ℤ → Duration
 duration_words z = record { hi = spelling z / 2 ^ 64; lo = spelling z % 2 ^ 64 }
 
-unfoldable pub duration_of : ℤ → DurationAnswer
-duration_of z = cond (in_duration z) (D.Value (duration_words z)) D.Out
+unfoldable pub duration_of : ℤ → Result Duration TimeError
+duration_of z = cond (in_duration z) (Ok (duration_words z)) (Err TimeError.OutOfRange)
 
 -- ---- a wire timestamp: 48-bit seconds, 32-bit nanoseconds (IEEE 1588-2019, 5.3.3); 10 ^ 9 nanoseconds or more count as the number they are
 
 unfoldable pub wire : WireTimestamp → ℤ
 wire w = pos ((w.seconds * 10 ^ 9 + w.nanos) * 2 ^ 32)
 
--- the time that a timestamp means, or `Seconds` where it has more than 48 bits of them. (`WireLaws`, `wire_in`: with 48 and 32 bits it always means a time.)
-unfoldable pub time_of_wire : WireTimestamp → ReadAnswer
-time_of_wire w = cond (ltb w.seconds (2 ^ 48)) (R.Value (time_words (wire w))) R.Seconds
+-- the time that a timestamp means, or `OutOfRange` where it has more than 48 bits of them. (`WireLaws`, `wire_in`: with 48 and 32 bits it always means a time.)
+unfoldable pub time_of_wire : WireTimestamp → Result Time TimeError
+time_of_wire w = cond (ltb w.seconds (2 ^ 48)) (Ok (time_words (wire w))) (Err TimeError.OutOfRange)
 
--- the timestamp of so many units, whole nanoseconds, with the fraction of one cut to 16 bits ('Sent messages'); or `Out` where the seconds have more than 48 bits
-unfoldable pub wire_of : ℤ → WireAnswer
+-- the timestamp of so many units, whole nanoseconds, with the fraction of one cut to 16 bits ('Sent messages'); or `OutOfRange` where the seconds have more than 48 bits
+unfoldable pub wire_of : ℤ → Result (WireTimestamp × ℕ) TimeError
 wire_of (pos n) =
     let nanoseconds : ℕ = n / 2 ^ 32 in
     cond
     (ltb (nanoseconds / 10 ^ 9) (2 ^ 48))
-    (W.Value (record { seconds = nanoseconds / 10 ^ 9; nanos = nanoseconds % 10 ^ 9 }) (n % 2 ^ 32 / 2 ^ 16))
-    W.Out
-wire_of (negsuc n) = W.Out
+    (Ok (record { seconds = nanoseconds / 10 ^ 9; nanos = nanoseconds % 10 ^ 9 }, (n % 2 ^ 32 / 2 ^ 16)))
+    (Err TimeError.OutOfRange)
+wire_of (negsuc n) = Err TimeError.OutOfRange
 
 -- ---- a correction field c: signed, 64 bits, 2 ^ -16 ns (IEEE 1588-2019, 5.3.2), so c × 65,536 units
 

@@ -3,77 +3,40 @@
 // of specs/, where meanings stand in ℤ.
 #![tactic(auto)]
 
-ghost use Rattle.std.specs.Prelude.{◌≡◌, ◌+◌, ◌*◌, ◌/◌, ◌^◌, ◌≤◌, ◌+ℤ◌, ◌-ℤ◌};
-ghost use Rattle.std.proofs.Math.IntN.{sub_ℕ};
-ghost use Rattle.time.specs.Units.{spelled, time, in_time, time_of, time_of_words, duration, duration_of, time_of_wire, wire_of, correction, half_of};
-
-mod words;
-
-use words::Wide;
+ghost use Rattle.std.specs.Prelude.{◌≡◌, pos, ◌+ℤ◌, ◌-ℤ◌};
+ghost use Rattle.time.specs.Units.{time, in_time, time_of, time_of_words, duration, duration_of, duration_words, time_of_wire, wire_of, correction, half_of};
 
 // A time: 0 to 2^127 - 1 units, the high word first. Words with the top bit set spell a number that
 // is no time; is_time tells, and each sum of them answers by the number they spell.
-#[derive(Clone, Copy)]
+#[derive(Clone, Copy, PartialEq, Eq)]
 pub struct Time {
     pub hi: u64,
     pub lo: u64,
 }
 
 // A duration: -2^127 to 2^127 - 1 units, the high word first, in two's complement.
-#[derive(Clone, Copy)]
+#[derive(Clone, Copy, PartialEq, Eq)]
 pub struct Duration {
     pub hi: u64,
     pub lo: u64,
 }
 
 // A timestamp of the wire. Its seconds have 48 bits there.
-#[derive(Clone, Copy)]
+#[derive(Clone, Copy, PartialEq, Eq)]
 pub struct WireTimestamp {
     pub seconds: u64,
     pub nanos: u32,
 }
 
-// What a sum of a time answers: Out where no time has so many units.
-#[derive(Clone, Copy)]
-pub enum TimeAnswer {
-    Value(Time),
-    Out,
-}
-
-// What a difference answers: Out where no duration has so many units.
-#[derive(Clone, Copy)]
-pub enum DurationAnswer {
-    Value(Duration),
-    Out,
-}
-
-// Two words as a time, or NoTime where the top bit is set.
-#[derive(Clone, Copy)]
-pub enum WordsAnswer {
-    Value(Time),
-    NoTime,
-}
-
-// A timestamp as a time, or Seconds where its seconds have no place in 48 bits.
-#[derive(Clone, Copy)]
-pub enum ReadAnswer {
-    Value(Time),
-    Seconds,
-}
-
-// What is sent of a time: its timestamp, and what of the fraction goes into the correction field, in
-// 2^-16 ns; Out where the seconds have no place in 48 bits.
-#[derive(Clone, Copy)]
-pub enum WireAnswer {
-    Value {
-        timestamp: WireTimestamp,
-        fraction: u16,
-    },
-    Out,
+// A sum, a difference or a timestamp that leaves its range.
+#[derive(Clone, Copy, Debug, PartialEq, Eq)]
+pub enum TimeError {
+    OutOfRange,
 }
 
 impl Time {
     // Whether the words are a time.
+    #[tactic(auto, using(crate::proofs::Machine::top_bit))]
     pub fn is_time(self) -> bool
         ensures { result ≡ in_time (time self) }
     {
@@ -81,20 +44,17 @@ impl Time {
         hi < 0x8000_0000_0000_0000
     }
 
-    // The time of two words, the high one first.
-    pub fn of_words(hi: u64, lo: u64) -> WordsAnswer
+    // The time of two words, the high one first; None where the top bit is set.
+    #[tactic(auto, unfolding(crate::specs::Units::time_of_words, crate::specs::Units::time))]
+    pub fn of_words(hi: u64, lo: u64) -> Option<Time>
         ensures { result ≡ time_of_words hi lo }
     {
         let t = Time { hi, lo };
-        if t.is_time() {
-            WordsAnswer::Value(t)
-        } else {
-            WordsAnswer::NoTime
-        }
+        if t.is_time() { Some(t) } else { None }
     }
 
-    // The time that a timestamp means.
-    pub fn of_wire(w: WireTimestamp) -> ReadAnswer
+    // The time that a timestamp means. Its seconds are out of range where they have no place in 48 bits.
+    pub fn of_wire(w: WireTimestamp) -> Result<Time, TimeError>
         ensures { result ≡ time_of_wire w }
     {
         let seconds = w.seconds;
@@ -102,17 +62,18 @@ impl Time {
         if seconds < 0x1_0000_0000_0000 {
             // a high word is 2^32 ns: the seconds' upper bits are a whole number of them, and
             // their lower 32 bits stay below 2^63 ns
-            let low = seconds % 0x1_0000_0000 * 1_000_000_000 + nanos as u64;
+            let low = seconds % 0x1_0000_0000 * 1_000_000_000 + u64::from(nanos);
             let hi = seconds / 0x1_0000_0000 * 1_000_000_000 + low / 0x1_0000_0000;
             let lo = low % 0x1_0000_0000 * 0x1_0000_0000;
-            ReadAnswer::Value(Time { hi, lo })
+            Ok(Time { hi, lo })
         } else {
-            ReadAnswer::Seconds
+            Err(TimeError::OutOfRange)
         }
     }
 
-    // The timestamp of this time and the fraction of a nanosecond behind it, cut to 16 bits.
-    pub fn to_wire(self) -> WireAnswer
+    // What is sent of this time: its timestamp, and the fraction of a nanosecond behind it, which goes into the correction
+    // field, cut to 2^-16 ns. Out of range where the seconds have no place in 48 bits.
+    pub fn to_wire(self) -> Result<(WireTimestamp, u16), TimeError>
         ensures { result ≡ wire_of (time self) }
     {
         let hi = self.hi;
@@ -121,130 +82,128 @@ impl Time {
         if hi < 65_536_000_000_000 {
             let low = hi % 1_000_000_000 * 0x1_0000_0000 + lo / 0x1_0000_0000;
             let seconds = hi / 1_000_000_000 * 0x1_0000_0000 + low / 1_000_000_000;
+            // these casts lose nothing either
             let nanos = (low % 1_000_000_000) as u32;
             let fraction = (lo % 0x1_0000_0000 / 0x1_0000) as u16;
-            WireAnswer::Value {
-                timestamp: WireTimestamp { seconds, nanos },
-                fraction,
-            }
+            Ok((WireTimestamp { seconds, nanos }, fraction))
         } else {
-            WireAnswer::Out
+            Err(TimeError::OutOfRange)
+        }
+    }
+
+    // The units, as one number.
+    #[inline(always)]
+    #[tactic(auto, unfolding(crate::specs::Units::time))]
+    fn units(self) -> u128
+        ensures { pos result ≡ time self }
+    {
+        (u128::from(self.hi) << 64) + u128::from(self.lo)
+    }
+
+    // The time of so many units.
+    #[inline(always)]
+    #[tactic(auto, unfolding(crate::specs::Units::time_of, crate::specs::Units::time_of_words))]
+    fn of_units(units: u128) -> Result<Time, TimeError>
+        ensures { result ≡ time_of (pos units) }
+    {
+        // the casts lose nothing; try_from would be no plainer, for it has an Err that never comes
+        match Time::of_words(
+            (units >> 64) as u64,
+            (units % 0x1_0000_0000_0000_0000) as u64,
+        ) {
+            Some(t) => Ok(t),
+            None => Err(TimeError::OutOfRange),
         }
     }
 
     // This time plus a correction field, which is the 64-bit word of the wire.
-    pub fn plus_correction(self, c: u64) -> TimeAnswer
+    #[inline(always)]
+    #[tactic(auto, using(crate::proofs::Machine::time_fits, crate::proofs::Machine::time_off))]
+    pub fn plus_correction(self, c: u64) -> Result<Time, TimeError>
         ensures { result ≡ time_of (time self +ℤ correction c) }
     {
-        let d = scaled(c);
-        let sum = words::add(self.hi, self.lo, d.hi, d.lo);
-        let carry = sum.carry;
-        checked_time(sum, carry, d.hi >> 63)
+        match self.units().checked_add_signed(correction_units(c)) {
+            Some(units) => Time::of_units(units),
+            None => Err(TimeError::OutOfRange),
+        }
     }
 
     // This time less a correction field.
-    pub fn minus_correction(self, c: u64) -> TimeAnswer
+    #[inline(always)]
+    #[tactic(auto, using(crate::proofs::Machine::time_fits, crate::proofs::Machine::time_off))]
+    pub fn minus_correction(self, c: u64) -> Result<Time, TimeError>
         ensures { result ≡ time_of (time self -ℤ correction c) }
     {
-        let d = scaled(c);
-        let difference = words::sub(self.hi, self.lo, d.hi, d.lo);
-        let borrow = difference.carry;
-        checked_time(difference, d.hi >> 63, borrow)
+        match self.units().checked_sub_signed(correction_units(c)) {
+            Some(units) => Time::of_units(units),
+            None => Err(TimeError::OutOfRange),
+        }
     }
 
     // This time less t.
-    pub fn minus(self, t: Time) -> DurationAnswer
+    #[inline(always)]
+    #[tactic(auto, using(crate::proofs::Machine::duration_fits, crate::proofs::Machine::duration_off))]
+    pub fn minus(self, t: Time) -> Result<Duration, TimeError>
         ensures { result ≡ duration_of (time self -ℤ time t) }
     {
-        checked_duration(words::sub(self.hi, self.lo, t.hi, t.lo))
+        match self.units().checked_signed_diff(t.units()) {
+            Some(units) => Ok(Duration::of_units(units)),
+            None => Err(TimeError::OutOfRange),
+        }
     }
 }
 
 impl Duration {
+    // The units, as one number.
+    #[inline(always)]
+    #[tactic(auto, using(crate::proofs::Machine::duration_is_cast))]
+    fn units(self) -> i128
+        ensures { result ≡ duration self }
+    {
+        ((u128::from(self.hi) << 64) + u128::from(self.lo)).cast_signed()
+    }
+
+    // The duration of so many units: every i128 is one.
+    #[inline(always)]
+    #[tactic(auto, using(crate::proofs::Machine::spelling_is_cast))]
+    fn of_units(units: i128) -> Duration
+        ensures { result ≡ duration_words units }
+    {
+        let word = units.cast_unsigned();
+        // the casts lose nothing; try_from would be no plainer, for it has an Err that never comes
+        Duration {
+            hi: (word >> 64) as u64,
+            lo: (word % 0x1_0000_0000_0000_0000) as u64,
+        }
+    }
+
     // This duration less d.
-    pub fn minus(self, d: Duration) -> DurationAnswer
+    #[inline(always)]
+    #[tactic(auto, using(crate::proofs::Machine::duration_fits, crate::proofs::Machine::duration_off))]
+    pub fn minus(self, d: Duration) -> Result<Duration, TimeError>
         ensures { result ≡ duration_of (duration self -ℤ duration d) }
     {
-        let a = turned(self.hi);
-        let b = turned(d.hi);
-        checked_duration(words::sub(a, self.lo, b, d.lo))
+        match self.units().checked_sub(d.units()) {
+            Some(units) => Ok(Duration::of_units(units)),
+            None => Err(TimeError::OutOfRange),
+        }
     }
 
     // Half of this, an odd unit dropped towards zero.
+    #[inline(always)]
+    #[tactic(auto, unfolding(crate::specs::Units::half, crate::specs::Units::half_of))]
     pub fn half(self) -> Duration
         ensures { result ≡ half_of self }
     {
-        let hi = self.hi;
-        let lo = self.lo;
-        let passed = hi % 2 * 0x8000_0000_0000_0000;
-        let low = lo / 2 + passed;
-        if hi < 0x8000_0000_0000_0000 {
-            Duration {
-                hi: hi / 2,
-                lo: low,
-            }
-        } else {
-            // the shift rounds down, so below zero the odd unit is given back
-            let high = hi / 2 + 0x8000_0000_0000_0000;
-            let r = words::add(high, low, 0, lo % 2);
-            Duration { hi: r.hi, lo: r.lo }
-        }
+        Duration::of_units(self.units() / 2)
     }
 }
 
-// The time of w's words with up times 2^128 above them, less down times 2^128.
-fn checked_time(w: Wide, up: u64, down: u64) -> TimeAnswer
-    requires { (up ≤ 1) × (down ≤ 1) }
-    ensures { result ≡ time_of (sub_ℕ (spelled w.hi w.lo + up * 2 ^ 128) (down * 2 ^ 128)) }
+// A correction field in units.
+#[inline(always)]
+#[tactic(auto, using(crate::proofs::Machine::correction_is_cast))]
+fn correction_units(c: u64) -> i128
+    ensures { result ≡ correction c }
 {
-    let t = Time { hi: w.hi, lo: w.lo };
-    if up == down {
-        if t.is_time() {
-            TimeAnswer::Value(t)
-        } else {
-            TimeAnswer::Out
-        }
-    } else {
-        TimeAnswer::Out
-    }
-}
-
-// The duration of w's words less what was borrowed above them.
-fn checked_duration(w: Wide) -> DurationAnswer
-    requires { w.carry ≤ 1 }
-    ensures { result ≡ duration_of (sub_ℕ (spelled w.hi w.lo) (w.carry * 2 ^ 128)) }
-{
-    let hi = w.hi;
-    let lo = w.lo;
-    let borrow = w.carry;
-    if borrow == hi >> 63 {
-        DurationAnswer::Value(Duration { hi, lo })
-    } else {
-        DurationAnswer::Out
-    }
-}
-
-// A correction field in units: its 64 bits moved up by 16, with the sign's bits above them.
-fn scaled(c: u64) -> Duration
-    ensures { duration result ≡ correction c }
-{
-    let lo = c % 0x1_0000_0000_0000 * 0x1_0000;
-    let hi = c / 0x1_0000_0000_0000;
-    if c < 0x8000_0000_0000_0000 {
-        Duration { hi, lo }
-    } else {
-        let extended = hi + 0xffff_ffff_ffff_0000;
-        Duration { hi: extended, lo }
-    }
-}
-
-// The top bit turned over, so that the words of durations stand in the order of their meanings.
-fn turned(hi: u64) -> u64
-    ensures { result + hi / 2 ^ 63 * 2 ^ 64 ≡ hi + 2 ^ 63 }
-{
-    if hi < 0x8000_0000_0000_0000 {
-        hi + 0x8000_0000_0000_0000
-    } else {
-        hi - 0x8000_0000_0000_0000
-    }
+    i128::from(c.cast_signed()) * 65_536
 }

@@ -1,14 +1,14 @@
 -- Laws of the timers: what a log interval's byte stands for, that 2 ^ n seconds are whole nanoseconds, that no draw gives an exact half, and that the delay timer is the one whole number less than half a nanosecond away.
-use Rattle.std.specs.Prelude.{◌≡◌, refl, true, false, ℕ, suc, ◌+◌, ◌-◌, ◌*◌, ◌/◌, ◌%◌, ◌^◌, ◌<◌, ◌≤◌, leb, ltb, ℤ, pos, negsuc, nat_abs, ◌-ℤ◌}
+use Rattle.std.specs.Prelude.{◌≡◌, refl, true, false, ℕ, suc, ◌+◌, ◌-◌, ◌*◌, ◌/◌, ◌%◌, ◌^◌, ◌<◌, ◌≤◌, leb, ltb, ℤ, pos, negsuc, nat_abs, ◌-ℤ◌, Ok, Err}
 use Rattle.std.proofs.Common.{sym, ap, ◌∙◌, arith, mod-lt, div-add-mod', mul-div_cancel, mul_assoc, mul-le-mul_right, pow-add, pow_pos, leb-true}
 use Rattle.std.proofs.Math.Bool.{and-true}
 use Rattle.std.proofs.Math.Decide.{dec_lt}
 use Rattle.std.proofs.Math.Dec.{leb-suc-suc}
-use Rattle.timers.specs.declared.TimerAnswer.TheVariants.{Value, Interval, Draw}
 use Rattle.timers.specs.Timers.{interval, in_interval, in_draw, sync_timer, to_nearest, odd_of, delay_timer, sync_timer_of, delay_timer_of}
 use Rattle.time.specs.Laws.{signed_low, signed_high}
 use Rattle.time.specs.Lemmas.Integers.{sub_ge, sub_lt, pos_minus}
 use Rattle.timers.specs.TimerLaws.{Near}
+use Rattle.timers.specs.declared.TimerError.{TimerError}
 
 -- ---- a log interval's byte, and a draw
 
@@ -126,22 +126,22 @@ delay_near n k h =
 
 -- ---- what each answer means
 
-pub sync_in : (byte : ℕ) → in_interval (interval byte) ≡ true → sync_timer_of byte ≡ Value (sync_timer (interval byte))
+pub sync_in : (byte : ℕ) → in_interval (interval byte) ≡ true → sync_timer_of byte ≡ Ok (sync_timer (interval byte))
 unfolding sync_timer_of
 sync_in byte h = simp h
 
-pub sync_out : (byte : ℕ) → in_interval (interval byte) ≡ false → sync_timer_of byte ≡ Interval
+pub sync_out : (byte : ℕ) → in_interval (interval byte) ≡ false → sync_timer_of byte ≡ Err TimerError.Interval
 unfolding sync_timer_of
 sync_out byte h = simp h
 
-pub delay_in : (byte k : ℕ) → in_interval (interval byte) ≡ true → in_draw k ≡ true → delay_timer_of byte k ≡ Value (delay_timer (interval byte) k)
+pub delay_in : (byte k : ℕ) → in_interval (interval byte) ≡ true → in_draw k ≡ true → delay_timer_of byte k ≡ Ok (delay_timer (interval byte) k)
 unfolding delay_timer_of
 delay_in byte k h d = simp (h, d)
 
-pub delay_out : (byte k : ℕ) → in_interval (interval byte) ≡ false → delay_timer_of byte k ≡ Interval
+pub delay_out : (byte k : ℕ) → in_interval (interval byte) ≡ false → delay_timer_of byte k ≡ Err TimerError.Interval
 unfolding delay_timer_of
 delay_out byte k h = simp h
 
-pub draw_out : (byte k : ℕ) → in_interval (interval byte) ≡ true → in_draw k ≡ false → delay_timer_of byte k ≡ Draw
+pub draw_out : (byte k : ℕ) → in_interval (interval byte) ≡ true → in_draw k ≡ false → delay_timer_of byte k ≡ Err TimerError.Draw
 unfolding delay_timer_of
 draw_out byte k h d = simp (h, d)

@@ -1,8 +1,7 @@
 -- Document 01, 'Units', its last part: the timers, in nanoseconds. A log interval is a byte in two's complement, as on the wire.
-use Rattle.std.specs.Prelude.{ℕ, suc, ◌+◌, ◌-◌, ◌*◌, ◌/◌, ◌^◌, Bool, cond, leb, ℤ, pos, negsuc, neg_ℤ, nat_abs, ◌-ℤ◌}
-use Rattle.timers.specs.declared.TimerAnswer.{TimerAnswer}
-use Rattle.timers.specs.declared.TimerAnswer.TheVariants.{Value, Interval, Draw}
+use Rattle.std.specs.Prelude.{ℕ, suc, ◌+◌, ◌-◌, ◌*◌, ◌/◌, ◌^◌, Bool, cond, leb, ℤ, pos, negsuc, neg_ℤ, nat_abs, ◌-ℤ◌, Result, Ok, Err}
 use Rattle.time.specs.Units.{signed, within}
+use Rattle.timers.specs.declared.TimerError.{TimerError}
 
 unfoldable pub interval : ℕ → ℤ
 interval byte = signed 8 byte
@@ -33,9 +32,9 @@ unfoldable pub delay_timer : ℤ → ℕ → ℕ
 delay_timer n k = to_nearest (odd_of k * 10 ^ 9) (2 ^ nat_abs (pos 52 -ℤ n))
 
 -- what the two functions answer, by the interval's byte: the interval is looked at first
-unfoldable pub sync_timer_of : ℕ → TimerAnswer
-sync_timer_of byte = cond (in_interval (interval byte)) (Value (sync_timer (interval byte))) Interval
+unfoldable pub sync_timer_of : ℕ → Result ℕ TimerError
+sync_timer_of byte = cond (in_interval (interval byte)) (Ok (sync_timer (interval byte))) (Err TimerError.Interval)
 
-unfoldable pub delay_timer_of : ℕ → ℕ → TimerAnswer
+unfoldable pub delay_timer_of : ℕ → ℕ → Result ℕ TimerError
 delay_timer_of byte k =
-    cond (in_interval (interval byte)) (cond (in_draw k) (Value (delay_timer (interval byte) k)) Draw) Interval
+    cond (in_interval (interval byte)) (cond (in_draw k) (Ok (delay_timer (interval byte) k)) (Err TimerError.Draw)) (Err TimerError.Interval)

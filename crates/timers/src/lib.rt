@@ -5,10 +5,9 @@
 ghost use Rattle.std.specs.Prelude.{◌≡◌, ◌+◌, ◌*◌, ◌^◌, ◌≤◌, ◌<◌, true, pos, nat_abs, ◌-ℤ◌};
 ghost use Rattle.timers.specs.Timers.{interval, in_interval, in_draw, odd_of, to_nearest, sync_timer_of, delay_timer_of};
 
-// A timer, or what is out of its limits: the log interval, or else the draw.
-#[derive(Clone, Copy)]
-pub enum TimerAnswer {
-    Value(u64),
+// What a timer can't be made of: a log interval, or else a draw, that is out of its limits.
+#[derive(Clone, Copy, Debug, PartialEq, Eq)]
+pub enum TimerError {
     Interval,
     Draw,
 }
@@ -33,24 +32,24 @@ fn shift_of(n: u8) -> u64
     ensures { (result + 35 ≡ nat_abs (pos 52 -ℤ interval n)) × (1 ≤ result) × (result ≤ 26) }
 {
     if n < 128 {
-        17 - n as u64
+        17 - u64::from(n)
     } else {
-        273 - n as u64
+        273 - u64::from(n)
     }
 }
 
 // The sync timer: 2^n seconds.
-pub fn sync_timer(n: u8) -> TimerAnswer
+#[tactic(auto, unfolding(crate::specs::Timers::sync_timer_of))]
+pub fn sync_timer(n: u8) -> Result<u64, TimerError>
     ensures { result ≡ sync_timer_of n }
 {
-    if is_interval(n) {
-        // 10^9 is 5^9 * 2^9, and 26 less the shift is n + 9
-        let up = 26 - shift_of(n);
-        let timer = 1_953_125 << up;
-        TimerAnswer::Value(timer)
-    } else {
-        TimerAnswer::Interval
+    if !is_interval(n) {
+        return Err(TimerError::Interval);
     }
+    // 10^9 is 5^9 * 2^9, and 26 less the shift is n + 9
+    let up = 26 - shift_of(n);
+    let timer = 1_953_125 << up;
+    Ok(timer)
 }
 
 // The delay timer by a shift that is 17 less the log interval.
@@ -67,16 +66,15 @@ fn drawn(k: u64, shift: u64) -> u64
 }
 
 // The delay timer for the draw k: (2 k + 1) * 10^9 * 2^(n - 52), to the nearest.
-pub fn delay_timer(n: u8, k: u64) -> TimerAnswer
+#[tactic(auto, unfolding(crate::specs::Timers::delay_timer_of, crate::specs::Timers::delay_timer, crate::specs::Timers::in_draw))]
+pub fn delay_timer(n: u8, k: u64) -> Result<u64, TimerError>
     ensures { result ≡ delay_timer_of n k }
 {
-    if is_interval(n) {
-        if is_draw(k) {
-            TimerAnswer::Value(drawn(k, shift_of(n)))
-        } else {
-            TimerAnswer::Draw
-        }
-    } else {
-        TimerAnswer::Interval
+    if !is_interval(n) {
+        return Err(TimerError::Interval);
     }
+    if !is_draw(k) {
+        return Err(TimerError::Draw);
+    }
+    Ok(drawn(k, shift_of(n)))
 }

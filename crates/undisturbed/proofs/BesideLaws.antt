@@ -1,9 +1,8 @@
 -- Events that belong to no exchange: filter answers, foreign traffic, and what else is harmless. Each reads and writes what both sides share, and neither side.
-use Rattle.std.specs.Prelude.{ℕ, ◌<◌, ◌≡◌, Bool, ◌||◌, [], ◌∷◌}
+use Rattle.std.specs.Prelude.{ℕ, ◌<◌, ◌≡◌, Bool, ◌||◌, [], ◌∷◌, Option, Some, None, Ok, Err, Result}
 use Rattle.std.proofs.Math.Path.{refl, ap}
 use Rattle.std.proofs.Common.{sym, ◌∙◌, true≢false, arith}
 use Rattle.std.proofs.Math.Bool.{true, false, cond}
-use Rattle.std.proofs.Math.Option.{none, some}
 use Rattle.wire.specs.Layout.{row, type_of}
 use Rattle.sent.specs.Messages.{p_delay_resp_of, p_delay_resp_follow_up_of}
 use Rattle.record.specs.Ids.{id_after}
@@ -11,9 +10,9 @@ use Rattle.fitness.specs.Fit.{config_out, unfit}
 use Rattle.fitness.specs.FitLaws.{FitSync}
 use Rattle.record.specs.Same.{same_identity}
 use Rattle.record.proofs.SameLaws.{same_identity_lem}
-use Rattle.rules.specs.Names.{MessageAnswer, Time, Identity, Header, Body, MaybeDuration, Exchange, PeerState, Mechanism, Config, Port, Outcome, Context, Action, MaybeMeasurement}
+use Rattle.rules.specs.Names.{Time, Identity, Header, Body, Exchange, PeerState, Mechanism, Config, Port, Outcome, Context, Action, Duration, TimeError, Message}
 use Rattle.rules.specs.Worked.{Worked, worked, refused, ◌then◌, a_message}
-use Rattle.rules.specs.Events.{Event, event, general, stamp, sync_timer, Done, Result, answered, refusal, nothing, sending, packet, Brings}
+use Rattle.rules.specs.Events.{Event, event, general, stamp, sync_timer, Done, Answered, answered, refusal, nothing, sending, packet, Brings}
 use Rattle.rules.specs.Exchanges.{stays, delay_stamped, peer_stamped}
 use Rattle.rules.specs.Rules.{sender_of, sync, follow_up, delay_resp, peer_answer, p_delay_resp, p_delay_resp_follow_up, delay_req, p_delay_req, stamped, sync_timer_ends, filtered, update_given, mean_given, keeping, on_event, on_general}
 use Rattle.rules.specs.Table.{ours, row1, row3, row4, row5, row6, row8}
@@ -57,7 +56,7 @@ module _ (c : Config) (master : Identity) (room : ℕ) where
 
   abbrev quietly : Exchange → Asking → Said → Done
   quietly x y d =
-      record { port = stands c master x y d.shared; measurement = MaybeMeasurement.None; message = d.message; actions = d.actions; reset = false }
+      record { port = stands c master x y d.shared; measurement = None; message = d.message; actions = d.actions; reset = false }
 
   module _ (id : ℕ) (e : Event) (z : Shared) where
     -- ---- a rule that gives the same whatever the sides are
@@ -66,15 +65,15 @@ module _ (c : Config) (master : Identity) (room : ℕ) where
     by_value (worked d) h =
         record {
           shared = d.shared;
-          answer = record { outcome = Outcome.Taken; measurement = MaybeMeasurement.None; packet = packet d.message; actions = d.actions; reset = false };
-          does = λ x y fx fy. ap (λ (q : Result). (q.port, plain_reply q)) (h x y fx fy);
+          answer = record { outcome = Outcome.Taken; measurement = None; packet = packet d.message; actions = d.actions; reset = false };
+          does = λ x y fx fy. ap (λ (q : Answered). (q.port, plain_reply q)) (h x y fx fy);
           silent = refl;
         }
     by_value (refused o) h =
         record {
           shared = z;
-          answer = record { outcome = o; measurement = MaybeMeasurement.None; packet = []; actions = []; reset = false };
-          does = λ x y fx fy. ap (λ (q : Result). (q.port, plain_reply q)) (h x y fx fy);
+          answer = record { outcome = o; measurement = None; packet = []; actions = []; reset = false };
+          does = λ x y fx fy. ap (λ (q : Answered). (q.port, plain_reply q)) (h x y fx fy);
           silent = refl;
         }
 
@@ -129,29 +128,29 @@ module _ (c : Config) (master : Identity) (room : ℕ) where
 
   -- ---- filter answers
 
-  abbrev mean_kept : Shared → MaybeDuration → Shared
-  mean_kept z MaybeDuration.None = z
-  mean_kept z (MaybeDuration.Some mean) = record { raw = z.raw; mean = MaybeDuration.Some mean }
+  abbrev mean_kept : Shared → Option Duration → Shared
+  mean_kept z None = z
+  mean_kept z (Some mean) = record { raw = z.raw; mean = Some mean }
 
-  mean_given_lem : (x : Exchange) (y : Asking) (z : Shared) (m : MaybeDuration) → mean_given (stands c master x y z) m ≡ stands c master x y (mean_kept z m)
-  mean_given_lem x y z MaybeDuration.None = refl
-  mean_given_lem x y z (MaybeDuration.Some mean) = refl
+  mean_given_lem : (x : Exchange) (y : Asking) (z : Shared) (m : Option Duration) → mean_given (stands c master x y z) m ≡ stands c master x y (mean_kept z m)
+  mean_given_lem x y z None = refl
+  mean_given_lem x y z (Some mean) = refl
 
   pub filter_free : (id : ℕ) (e : Event) (z : Shared) → FilterAnswer e → FreeTo id e z
   unfolding rule_of filtered
   filter_free id e z (a_filter_answer u) =
-      free_by id e z (worked (record { shared = mean_kept z u.mean_delay; message = none; actions = update_given u.next_update }))
-      (λ x y fx fy. ap (λ (p : Port). worked (record { port = p; measurement = MaybeMeasurement.None; message = none; actions = update_given u.next_update; reset = false })) (mean_given_lem x y z u.mean_delay))
+      free_by id e z (worked (record { shared = mean_kept z u.mean_delay; message = None; actions = update_given u.next_update }))
+      (λ x y fx fy. ap (λ (p : Port). worked (record { port = p; measurement = None; message = None; actions = update_given u.next_update; reset = false })) (mean_given_lem x y z u.mean_delay))
 
   -- ---- foreign traffic
 
   -- a message that is sent in answer, if its fields are in range
-  abbrev sent_said : Shared → MessageAnswer → Action → Worked Said
-  sent_said z m a = a_message m then λ n. worked (record { shared = z; message = some n; actions = a ∷ [] })
+  abbrev sent_said : Shared → Result Message TimeError → Action → Worked Said
+  sent_said z m a = a_message m then λ n. worked (record { shared = z; message = Some n; actions = a ∷ [] })
 
-  sent_said_lem : (x : Exchange) (y : Asking) (z : Shared) (m : MessageAnswer) (a : Action) → (a_message m then λ n. worked (sending (stands c master x y z) [] n a)) ≡ (sent_said z m a then λ d. worked (quietly x y d))
-  sent_said_lem x y z (MessageAnswer.Value n) a = refl
-  sent_said_lem x y z MessageAnswer.Out a = refl
+  sent_said_lem : (x : Exchange) (y : Asking) (z : Shared) (m : Result Message TimeError) (a : Action) → (a_message m then λ n. worked (sending (stands c master x y z) [] n a)) ≡ (sent_said z m a then λ d. worked (quietly x y d))
+  sent_said_lem x y z (Ok n) a = refl
+  sent_said_lem x y z (Err TimeError.OutOfRange) a = refl
 
   pub foreign_free : (id : ℕ) (e : Event) (z : Shared) → BytesIn e → Foreign c master e → FreeTo id e z
   unfolding rule_of on_event on_general sync follow_up delay_resp p_delay_resp p_delay_resp_follow_up peer_answer p_delay_req stamped
@@ -171,13 +170,13 @@ module _ (c : Config) (master : Identity) (room : ℕ) where
   foreign_free id e z bytes (a_p_delay_req f h w u brought) =
       by_entry h (Body.PDelayReq w) u (λ f. FreeTo id f z)
       (λ at message r.
-      let m : MessageAnswer = p_delay_resp_of (sender_of c) h at in
+      let m : Result Message TimeError = p_delay_resp_of (sender_of c) h at in
       let a : Action = Action.SendEvent (Context.PDelayResp h.id h.source) true in
       heard_by id (event at message) z h (sent_said z m a) (λ x y fx fy. event_rule_is h (Body.PDelayReq w) u (stands c master x y z) at message r ∙ ap (λ (v : Worked Done). cond (ours c h) v (refused Outcome.Foreign)) (sent_said_lem x y z m a)))
       (λ message r. heard_by id (general message) z h (worked (silence z)) (λ x y fx fy. general_rule_is h (Body.PDelayReq w) u (stands c master x y z) message r))
       c f brought
   foreign_free id e z bytes (a_p_delay_resp_stamp t j requester) =
-      let m : MessageAnswer = p_delay_resp_follow_up_of (sender_of c) j requester t in
+      let m : Result Message TimeError = p_delay_resp_follow_up_of (sender_of c) j requester t in
       free_by id (stamp t (Context.PDelayResp j requester)) z (sent_said z m (Action.SendGeneral true)) (λ x y fx fy. sent_said_lem x y z m (Action.SendGeneral true))
   foreign_free id e z bytes (unheard f limits o) = unheard_free id f z bytes o
 

@@ -1,6 +1,6 @@
 -- The delay exchange as a part of what asks for delays: the request's send stamp and its DelayResp, each for itself.
 use Prim.Native.Nat.{ℕ}
-use Rattle.std.specs.Prelude.{◌≡◌, Bool, true, false, ◌-ℤ◌}
+use Rattle.std.specs.Prelude.{◌≡◌, Bool, true, false, ◌-ℤ◌, Option, Some, None}
 use Rattle.std.proofs.Math.Path.{refl, sym, ap, subst}
 use Rattle.std.proofs.Common.{◌∙◌, true≢false, eq-eqb, eqb-true}
 use Rattle.std.proofs.Math.Bool.{cond}
@@ -14,7 +14,7 @@ use Rattle.fitness.specs.FitLaws.{FitSync, FitPeer}
 use Rattle.fitness.proofs.FitLaws.{fit_is}
 use Rattle.record.proofs.SameLaws.{same_identity_lem}
 use Rattle.record.specs.Ids.{id_after}
-use Rattle.rules.specs.Names.{Time, Duration, Identity, Header, Body, MaybeTime, MaybeDuration, Exchange, PeerState, Mechanism, Config, Ids, Port, Measurement, Context, Action}
+use Rattle.rules.specs.Names.{Time, Duration, Identity, Header, Body, Exchange, PeerState, Mechanism, Config, Ids, Port, Measurement, Context, Action}
 use Rattle.rules.specs.Worked.{Worked, worked, ◌then◌, less_correction, elapsed, less_duration}
 use Rattle.rules.specs.Events.{Event, stamp, delay_timer, Done, nothing, Brings}
 use Rattle.rules.specs.Exchanges.{stays, becomes, delay_answered, delay_stamped}
@@ -72,15 +72,15 @@ module _ (c : Config) (master : Identity) (room : ℕ) (end_to_end : c.mechanism
         unfolding rule_of stamped delay_stamped times_in
         stamped_stores t missing =
             stamp_stores c master room (holding_delay id) es v held (stamp t (Context.DelayReq id)) t refl missing (λ no_send x z i.
-            keeping (asks c master room (holding_delay id v) x z) (λ d. asks c master room (delay_side d) x z) (cond (eq-eqb id id refl i) (cond (there (no_send i)) stays (becomes (Exchange.Measuring id (MaybeTime.Some t) v.receive))) stays))
+            keeping (asks c master room (holding_delay id v) x z) (λ d. asks c master room (delay_side d) x z) (cond (eq-eqb id id refl i) (cond (there (no_send i)) stays (becomes (Exchange.Measuring id (Some t) v.receive))) stays))
 
         response_stores : (e : Event) (h : Header) (w : WireTimestamp) (requester : Identity) (u : Time) → Brings c e h (Body.DelayResp w requester) u → FromMaster master id h → requester ≡ c.identity → overlap (times_of c es) (times_in c e) ≡ false → DelayStores e v
         unfolding on_event on_general delay_resp delay_answered
         response_stores e h w requester u brought from to_us missing =
             let came : ℤ = wire w -ℤ correction h.correction in
             let brings : times_in c e ≡ received_at came = brought_times h (Body.DelayResp w requester) u c (λ at. refl) e brought in
-            let no_receive : v.receive ≡ MaybeTime.None = lacks_receive (times_of c es) (times_in c e) v held missing came (ap (λ (a : Times). a.receive) brings) in
-            let new_one : Time → Exchange = λ t. Exchange.Measuring id v.send (MaybeTime.Some t) in
+            let no_receive : v.receive ≡ None = lacks_receive (times_of c es) (times_in c e) v held missing came (ap (λ (a : Times). a.receive) brings) in
+            let new_one : Time → Exchange = λ t. Exchange.Measuring id v.send (Some t) in
             record {
               guard = ours c h;
               sum = less_correction u h;
@@ -97,16 +97,16 @@ module _ (c : Config) (master : Identity) (room : ℕ) (end_to_end : c.mechanism
     -- ---- what a full exchange measures
 
     module _ (z : Shared) (send receive : Time) where
-      abbrev packed : Duration → MaybeDuration → Shared × Measurement
+      abbrev packed : Duration → Option Duration → Shared × Measurement
       packed raw delay = (z, Measurement.Delay send raw delay)
 
       abbrev delay_sum : Worked (Shared × Measurement)
       delay_sum =
           three_steps (elapsed send receive) (λ d. less_duration d c.asymmetry) (λ d raw. half_below z.raw raw) (λ d raw delay. packed raw delay)
 
-      half_comes : (last : MaybeDuration) (raw : Duration) → Comes Anything NotTaken (half_below last raw)
-      half_comes MaybeDuration.None raw = tt
-      half_comes (MaybeDuration.Some last) raw =
+      half_comes : (last : Option Duration) (raw : Duration) → Comes Anything NotTaken (half_below last raw)
+      half_comes None raw = tt
+      half_comes (Some last) raw =
           all_then Anything NotTaken (less_duration last raw) _ (all_less NotTaken not_taken.range last raw) (λ o e. tt)
 
       delay_comes : Comes Anything NotTaken delay_sum

@@ -71,14 +71,14 @@ module _ {L R Z S E A : Type 0} {put : L → R → Z → S} {act : S → E → S
 
 -- x and y are the two sides of what stands, mk x y z, and z is what both share; i says which request is open or comes next
 module _ {X Y Z I S E A C M : Type 0} (mk : X → Y → Z → S) (act : S → E → S × A) (FitX : X → Type 0) (FitY : I → Y → Type 0) (next : I → I)
-    (Ok : Place → E × A → Type 0) (measured : A → List M) (Says : S → C → A → S → Type 0) (nothing : C) (due : Lane → List E → C)
+    (Admitted : Place → E × A → Type 0) (measured : A → List M) (Says : S → C → A → S → Type 0) (nothing : C) (due : Lane → List E → C)
     (silent_says : (s : S) (a : A) (t : S) → measured a ≡ [] → Says s nothing a t) where
   -- both sides, as `SideLaws` has them. A sync has no index, and must not mind which request is open: its parts may be done beside a later one
   abbrev pub SyncGoes : List E → X → List (Item E) → Type 0
-  SyncGoes = Goes mk act (λ (u : Unit {0}) x. FitX x) (FitAny FitY) (λ u. u) Ok measured Says (due syncs) tt
+  SyncGoes = Goes mk act (λ (u : Unit {0}) x. FitX x) (FitAny FitY) (λ u. u) Admitted measured Says (due syncs) tt
 
   abbrev pub RequestGoes : I → List E → Y → List (Item E) → Type 0
-  RequestGoes = Goes (swapped mk) act FitY FitX next Ok measured Says (due requests)
+  RequestGoes = Goes (swapped mk) act FitY FitX next Admitted measured Says (due requests)
 
   abbrev BehindX : X → List (Item E) → List (Item (E × A)) → X → Type 0
   BehindX = Behind mk act FitX (FitAny FitY)
@@ -100,7 +100,7 @@ module _ {X Y Z I S E A C M : Type 0} (mk : X → Y → Z → S) (act : S → E 
   -- the given run stands at mk x y z and has cs and cr of the open exchanges; the gathered one stands at mk x0 y0 z, behind by their parts. Both move i at the last of a request, so that it is the same for both
   lags : (run : List (Item E)) {x0 x : X} {y0 y : Y} (z : Z) (i : I) {hs hr : List (Item E)} {ks kr : List (Item (E × A))} (cs cr : List E)
       → BehindX x0 hs ks x → BehindY i y0 hr kr y → SyncGoes cs x (lane syncs run) → RequestGoes i cr y (lane requests run)
-      → Frees mk act FitX FitY next measured i run → Each Ok (log_of act (mk x y z) run)
+      → Frees mk act FitX FitY next measured i run → Each Admitted (log_of act (mk x y z) run)
       → Lags (mk x0 y0 z) (gather_from hs hr run) (gather_from ks kr (log_of act (mk x y z) run)) (end_of act (mk x y z) run) (log_of act (mk x y z) run) (Told act Says nothing due cs cr (mk x y z) run)
   unfolding log_of end_of gather_from lane Goes Frees Each Told
   lags [] {x0} {x} {y0} {y} z i cs cr bx by gx gy gf ok =
@@ -139,7 +139,7 @@ module _ {X Y Z I S E A C M : Type 0} (mk : X → Y → Z → S) (act : S → E 
     pub answers : log_of act s (gather run) ≡ gather (log_of act s run)
     pub ends : end_of act s (gather run) ≡ end_of act s run
 
-  pub gathers : (run : List (Item E)) (x : X) (y : Y) (z : Z) (i : I) → FitX x → FitY i y → SyncGoes [] x (lane syncs run) → RequestGoes i [] y (lane requests run) → Frees mk act FitX FitY next measured i run → Each Ok (log_of act (mk x y z) run) → Gathers (mk x y z) run
+  pub gathers : (run : List (Item E)) (x : X) (y : Y) (z : Z) (i : I) → FitX x → FitY i y → SyncGoes [] x (lane syncs run) → RequestGoes i [] y (lane requests run) → Frees mk act FitX FitY next measured i run → Each Admitted (log_of act (mk x y z) run) → Gathers (mk x y z) run
   gathers run x y z i fx fy gx gy gf ok =
       let g = lags run z i [] [] (behind_none fx) (behind_none fy) gx gy gf ok in
       record {

@@ -1,8 +1,8 @@
 -- A run with all that is `Harmless` between the parts of an exchange, end-to-end: it meets what `others_stand` asks, and what it measures is computed besides.
-use Rattle.std.specs.Prelude.{ℕ, ◌<◌, ◌≡◌, refl, [], ◌∷◌, eqb}
+use Rattle.std.specs.Prelude.{ℕ, ◌<◌, ◌≡◌, refl, [], ◌∷◌, eqb, None}
 use Rattle.std.proofs.Common.{ap, true≢false, arith}
 use Rattle.record.specs.Record.{slave_of}
-use Rattle.rules.specs.Names.{Mechanism, MaybeDuration, Measurement}
+use Rattle.rules.specs.Names.{Mechanism, Measurement}
 use Rattle.rules.specs.Events.{delay_timer, buffer_after}
 use Rattle.undisturbed.specs.Runs.{lane, joined, Each, log_of, found}
 use Rattle.undisturbed.specs.Whole.{OfDelay, RequestExchange, SyncExchanges, RequestExchanges}
@@ -15,7 +15,7 @@ use Rattle.undisturbed.specs.WovenExamples.{request_part, all_small, buffer}
 use Rattle.undisturbed.proofs.WovenExamples.{all_bytes, from_master, as_listed}
 use Rattle.undisturbed.specs.HarmlessExamples.{answers, run}
 
-pub measured : found measured_in (log_of happens (slave 10, buffer) run) ≡ Measurement.Delay (ns 2000) (lasting 30) MaybeDuration.None ∷ []
+pub measured : found measured_in (log_of happens (slave 10, buffer) run) ≡ Measurement.Delay (ns 2000) (lasting 30) None ∷ []
 unfolding run_of happens buffer_after log_of found
 measured = refl
 

@@ -1,13 +1,13 @@
 -- The events of an exchange in any order, once for every kind of exchange: an open exchange is a bag of times, each event puts into it what it brings, and the one that makes it full is measured. A kind of exchange has to show the five laws of `Exchanging`, each about one event.
-use Rattle.std.specs.Prelude.{ℕ, ◌≡◌, refl, Bool, cond}
+use Rattle.std.specs.Prelude.{ℕ, ◌≡◌, refl, Bool, cond, Some, None}
 use Rattle.std.proofs.Common.{sym, ◌∙◌}
 use Rattle.std.proofs.Math.Path.{ap, subst}
 use Rattle.std.proofs.Math.Bool.{true, false}
 use mathlib.Core.List.{List, [], ◌∷◌, ◌++◌}
 use Rattle.fitness.specs.Fit.{config_out, unfit}
-use Rattle.rules.specs.Names.{Time, Identity, Config, Port, Outcome, Measurement, MaybeMeasurement}
+use Rattle.rules.specs.Names.{Time, Identity, Config, Port, Outcome, Measurement}
 use Rattle.rules.specs.Worked.{Worked, worked, refused, ◌then◌}
-use Rattle.rules.specs.Events.{Event, Done, Result, answered, nothing}
+use Rattle.rules.specs.Events.{Event, Done, Answered, answered, nothing}
 use Rattle.rules.specs.Measuring.{settle, measured}
 use Rattle.rules.specs.Table.{row1, row3}
 use Rattle.rules.specs.Step.{rule_of, step}
@@ -27,7 +27,7 @@ use Rattle.rules.proofs.FitnessLaws.{fitness_kept}
 use Rattle.undisturbed.specs.StandingLaws.{Shared, gated, LetThrough, let_through}
 use Rattle.undisturbed.specs.TimesLaws.{overlap, finished, Bag, HoldsAll, FillsAll}
 use Rattle.undisturbed.proofs.TimesLaws.{times_snoc, fills_hold}
-use Rattle.undisturbed.specs.LaneLaws.{Ok, replied, Rest}
+use Rattle.undisturbed.specs.LaneLaws.{Admitted, replied, Rest}
 
 -- ---- an exchange as its proof takes it: each event brings what is missing, and the last what is missing last
 
@@ -60,7 +60,7 @@ module _ (c : Config) (master : Identity) (room : ℕ) (k : Lane) {L R I : Type 
     pub closed_fits : FitL (next i) closed
 
   abbrev pub SideGoes : I → List Event → L → List (Item Event) → Type 0
-  SideGoes i es l items = Goes put (plain room) FitL FitR next Ok measured_in PlainSays (comes_to c k) i es l items
+  SideGoes i es l items = Goes put (plain room) FitL FitR next Admitted measured_in PlainSays (comes_to c k) i es l items
 
   module _ (gate : (i : I) (l : L) (r : R) (z : Shared) (e : Event) → FitL i l → FitR r → step (put l r z) room e ≡ answered (put l r z) (gated c master room e (rule_of (put l r z) e))) {i : I} {Of : Event → Type 0} {holding : Bag → L} {closed : L} (x : Exchanging i Of holding closed) where
     -- ---- an event of the exchange, up to where what it left is settled
@@ -75,7 +75,7 @@ module _ (c : Config) (master : Identity) (room : ℕ) (k : Lane) {L R I : Type 
       is_put r z fr ok =
           let s : Stores holding e v = x.stores es e v of h missing in
           let g : (r : R) (z : Shared) → FitR r → step (put (holding v) r z) room e ≡ answered (put (holding v) r z) (gated c master room e (cond s.guard (s.sum then λ t. settle (put (holding (s.next_bag t)) r z)) (refused Outcome.Foreign))) = λ r z fr. gate i (holding v) r z e f fr ∙ ap (λ (w : Worked Done). answered (put (holding v) r z) (gated c master room e w)) (s.rule r z fr) in
-          let l : LetThrough (row1 c e room) (config_out c) (row3 e) s.guard s.sum = let_through (put (holding v) r z) (row1 c e room) (config_out c) (row3 e) s.guard s.sum (λ t. settle (put (holding (s.next_bag t)) r z)) s.range (subst (λ (q : Result). q.outcome ≡ Outcome.Taken) (g r z fr) ok) in
+          let l : LetThrough (row1 c e room) (config_out c) (row3 e) s.guard s.sum = let_through (put (holding v) r z) (row1 c e room) (config_out c) (row3 e) s.guard s.sum (λ t. settle (put (holding (s.next_bag t)) r z)) s.range (subst (λ (q : Answered). q.outcome ≡ Outcome.Taken) (g r z fr) ok) in
           let w : Bag = s.next_bag l.value in
           record {
             bag = w;
@@ -85,24 +85,24 @@ module _ (c : Config) (master : Identity) (room : ℕ) (k : Lane) {L R I : Type 
 
       -- ---- a part: something is missing still
 
-      part_done : (j : Lane) → finished (comes_to c k (es ++ (e ∷ []))) ≡ false → (Then : L → Type 0) → ((w : Bag) → HoldsAll (times_of c (es ++ (e ∷ []))) w → FitL i (holding w) → Then (holding w)) → PartGoes put (plain room) FitL FitR next Ok measured_in PlainSays (comes_to c k) i (within j (a_part new)) e (holding v) Then
+      part_done : (j : Lane) → finished (comes_to c k (es ++ (e ∷ []))) ≡ false → (Then : L → Type 0) → ((w : Bag) → HoldsAll (times_of c (es ++ (e ∷ []))) w → FitL i (holding w) → Then (holding w)) → PartGoes put (plain room) FitL FitR next Admitted measured_in PlainSays (comes_to c k) i (within j (a_part new)) e (holding v) Then
       unfolding comes_to
       part_done j unfinished Then goes = λ r z fr (taken, bytes).
           let p : Put es e v = is_put r z fr taken in
           let quiet : (r : R) (z : Shared) → FitR r → step (put (holding v) r z) room e ≡ answered (put (holding v) r z) (nothing (put (holding p.bag) r z)) = λ r z fr. p.steps r z fr ∙ ap (answered (put (holding v) r z)) (x.lacking (times_of c (es ++ (e ∷ []))) p.bag p.holds unfinished r z fr) in
-          let fit : FitL i (holding p.bag) = x.fits p.bag r z (subst (λ (q : Result). unfit q.port ≡ false) (quiet r z fr) (fitness_kept (put (holding v) r z) room e bytes taken)) in
+          let fit : FitL i (holding p.bag) = x.fits p.bag r z (subst (λ (q : Answered). unfit q.port ≡ false) (quiet r z fr) (fitness_kept (put (holding v) r z) room e bytes taken)) in
           record {
             side = holding p.bag;
-            answer = replied MaybeMeasurement.None;
+            answer = replied None;
             fits = fit;
-            does = λ r z fr. ap (λ (q : Result). (q.port, plain_reply q)) (quiet r z fr);
+            does = λ r z fr. ap (λ (q : Answered). (q.port, plain_reply q)) (quiet r z fr);
             silent = refl;
             goes_on = goes p.bag p.holds fit;
           }
 
       -- ---- the last: nothing is missing any more
 
-      last_done : (j : Lane) → finished (comes_to c k (es ++ (e ∷ []))) ≡ true → (Then : L → Type 0) → Then closed → LastGoes put (plain room) FitL FitR next Ok measured_in PlainSays (comes_to c k) i (within j (the_last in_full)) es e (holding v) Then
+      last_done : (j : Lane) → finished (comes_to c k (es ++ (e ∷ []))) ≡ true → (Then : L → Type 0) → Then closed → LastGoes put (plain room) FitL FitR next Admitted measured_in PlainSays (comes_to c k) i (within j (the_last in_full)) es e (holding v) Then
       unfolding comes_to
       last_done j All-there Then goes = λ r z fr (taken, bytes).
           let p : Put es e v = is_put r z fr taken in
@@ -110,17 +110,17 @@ module _ (c : Config) (master : Identity) (room : ℕ) (k : Lane) {L R I : Type 
           let m : Completes holding closed a p.bag z = x.completes a p.bag p.holds All-there z in
           let done : Shared × Measurement → R → Done = λ n r. measured (put closed r n.0) n.1 false in
           let g : (r : R) → FitR r → step (put (holding v) r z) room e ≡ answered (put (holding v) r z) (m.sum then λ n. worked (done n r)) = λ r fr. p.steps r z fr ∙ ap (answered (put (holding v) r z)) (m.settled r fr ∙ m.measures r) in
-          let l : LetThrough false false false true m.sum = let_through (put (holding v) r z) false false false true m.sum (λ n. worked (done n r)) m.range (subst (λ (q : Result). q.outcome ≡ Outcome.Taken) (g r fr) taken) in
+          let l : LetThrough false false false true m.sum = let_through (put (holding v) r z) false false false true m.sum (λ n. worked (done n r)) m.range (subst (λ (q : Answered). q.outcome ≡ Outcome.Taken) (g r fr) taken) in
           let n : Shared × Measurement = l.value in
           let SaysOf : Completed → Done → Type 0 = λ x d. Says (put (holding v) r z) x d.measurement d.port in
           let settled : (r : R) → (m.sum then λ n. worked (done n r)) ≡ worked (done n r) = λ r. l.through (λ n. worked (done n r)) in
           record {
             side = closed;
             shared = n.0;
-            answer = replied (MaybeMeasurement.Some n.1);
+            answer = replied (Some n.1);
             fits = x.closed_fits;
-            does = λ r fr. ap (λ (q : Result). (q.port, plain_reply q)) (g r fr ∙ ap (answered (put (holding v) r z)) (settled r));
-            says = subst (λ (x : Completed). Says (put (holding v) r z) x (MaybeMeasurement.Some n.1) (put closed r n.0)) (sym m.worth) (all_is (SaysOf m.exchange) Silent (m.measure r) (done n r) (m.measures r ∙ settled r) (agrees_all (numbers_of (put (holding v) r z) m.exchange) (SaysOf m.exchange) (m.measure r) (m.judged v r)));
+            does = λ r fr. ap (λ (q : Answered). (q.port, plain_reply q)) (g r fr ∙ ap (answered (put (holding v) r z)) (settled r));
+            says = subst (λ (x : Completed). Says (put (holding v) r z) x (Some n.1) (put closed r n.0)) (sym m.worth) (all_is (SaysOf m.exchange) Silent (m.measure r) (done n r) (m.measures r ∙ settled r) (agrees_all (numbers_of (put (holding v) r z) m.exchange) (SaysOf m.exchange) (m.measure r) (m.judged v r)));
             once = tt;
             goes_on = goes;
           }

@@ -1,11 +1,10 @@
 -- Pieces in any order bring what is missing, one after another, until nothing is: an exchange as `Whole` says it is one as its proof takes it. Which times are there is all that matters of them, so for given pieces every order is tried by computing.
 use Prim.Native.Nat.{ℕ, zero, suc}
-use Rattle.std.specs.Prelude.{◌≡◌, Bool, true, ◌&&◌, ◌||◌, not, ℤ}
+use Rattle.std.specs.Prelude.{◌≡◌, Bool, true, ◌&&◌, ◌||◌, not, ℤ, Option, Some, None}
 use Rattle.std.proofs.Math.Path.{refl, ap, subst}
 use Rattle.std.proofs.Common.{sym, ◌∙◌, true≢false}
 use Rattle.std.proofs.Math.Bool.{false, and-true}
 use mathlib.Core.List.{List, [], ◌∷◌, ◌++◌}
-use Rattle.std.proofs.Math.Option.{Option, none, some}
 use borrow.Author.Tests.{not-true}
 use Rattle.octets.proofs.BytesLaws.{both}
 use Rattle.rules.specs.Names.{Mechanism, Config}
@@ -22,25 +21,25 @@ use Rattle.undisturbed.specs.OrderLaws.{Shape, is_given, shape_of, or_shape, mee
 -- ---- which times are there
 
 given_both : (a b : Option ℤ) → both_given a b ≡ (is_given a && is_given b)
-given_both none b = refl
-given_both (some x) none = refl
-given_both (some x) (some y) = refl
+given_both None b = refl
+given_both (Some x) None = refl
+given_both (Some x) (Some y) = refl
 
 overlap-meets : (a b : Times) → overlap a b ≡ meets (shape_of a) (shape_of b)
 overlap-meets a b =
     λ i. given_both a.send b.send i || given_both a.receive b.receive i || given_both a.request_receive b.request_receive i || given_both a.response_send b.response_send i
 
 given_or : (a b : Option ℤ) → is_given (earlier_of a b) ≡ (is_given a || is_given b)
-given_or none b = refl
-given_or (some x) b = refl
+given_or None b = refl
+given_or (Some x) b = refl
 
 shape_then : (a b : Times) → shape_of (and_then a b) ≡ or_shape (shape_of a) (shape_of b)
 shape_then a b =
     λ i. record { send = given_or a.send b.send i; receive = given_or a.receive b.receive i; request_receive = given_or a.request_receive b.request_receive i; response_send = given_or a.response_send b.response_send i }
 
 finished_given : (a : Option ℤ) (k : ℤ → Completed) (b : Bool) → ((z : ℤ) → finished (k z) ≡ b) → finished (if_given a k) ≡ (is_given a && b)
-finished_given none k b f = refl
-finished_given (some z) k b f = f z
+finished_given None k b f = refl
+finished_given (Some z) k b f = f z
 
 two_finished : (made : ℤ → ℤ → Completed) → ((x y : ℤ) → finished (made x y) ≡ true) → (a b : Option ℤ) → finished (if_given a (λ x. if_given b (λ y. made x y))) ≡ (is_given a && is_given b)
 two_finished made done a b =

@@ -1,8 +1,8 @@
 -- What demand 3 does not speak of, and why: small runs, each with what it measures and what is measured where each exchange stands together. None of them is `Woven`, not even with what is `Harmless`: by `others_stand` it would then measure what it does not. And, at the end, what it does not promise: a run that is `Woven`, and leaves another buffer than the gathered one.
-use Rattle.std.specs.Prelude.{◌≡◌, refl, Bool, true, false, List, [], ◌∷◌, length, eqb}
+use Rattle.std.specs.Prelude.{◌≡◌, refl, Bool, true, false, List, [], ◌∷◌, length, eqb, Ok, Err}
 use Rattle.std.proofs.Common.{sym, ap, true≢false}
 use Rattle.record.specs.Record.{with_slave, slave_of}
-use Rattle.rules.specs.Names.{Reading, Mechanism, Measurement}
+use Rattle.rules.specs.Names.{Reading, Mechanism, Measurement, Received, ReadError}
 use Rattle.rules.specs.Events.{delay_timer, buffer_after}
 use Rattle.undisturbed.specs.Runs.{gather_from, gather, lane, joined, Each, log_of, end_of, found}
 use Rattle.undisturbed.specs.Whole.{OfDelay, RequestExchange, SyncExchanges, RequestExchanges, Foreign, other_sync, other_follow_up, other_delay_resp, delay_resp_for_other, p_delay_resp_for_other, p_delay_resp_follow_up_for_other, a_p_delay_req, unheard}
@@ -103,10 +103,10 @@ buffer_left = (refl, refl)
 -- ---- foreign traffic that is answered 4, 5, 6 or 8, and not 3: one byte, with a time that is none
 
 is_message : Reading → Bool
-is_message (Reading.Message h b t) = true
-is_message (Reading.Host h) = false
-is_message Reading.Version = false
-is_message Reading.Malformed = false
+is_message (Ok (Received.Message h b t)) = true
+is_message (Ok (Received.Host h)) = false
+is_message (Err ReadError.Version) = false
+is_message (Err ReadError.Malformed) = false
 
 pub answered_3_not_foreign : Foreign (slave 10).config master too_late → ⊥
 unfolding run_of is_message

@@ -1,6 +1,6 @@
 -- The peer exchange as a part of what asks for delays: the request's send stamp, its PDelayResp and the follow-up of a two-step one, each for itself.
 use Prim.Native.Nat.{ℕ}
-use Rattle.std.specs.Prelude.{◌≡◌, Bool, true, false, ◌||◌, not, ◌+ℤ◌, ◌-ℤ◌}
+use Rattle.std.specs.Prelude.{◌≡◌, Bool, true, false, ◌||◌, not, ◌+ℤ◌, ◌-ℤ◌, Option, Some, None, Ok}
 use Rattle.std.proofs.Math.Path.{refl, sym, ap, subst}
 use Rattle.std.proofs.Common.{◌∙◌, true≢false, eq-eqb, eqb-true}
 use Rattle.std.proofs.Math.Bool.{cond}
@@ -15,7 +15,7 @@ use Rattle.fitness.specs.FitLaws.{FitSync, FitPeer}
 use Rattle.fitness.proofs.FitLaws.{fit_is}
 use Rattle.record.specs.Ids.{id_after}
 use Rattle.record.specs.Record.{with_peer}
-use Rattle.rules.specs.Names.{Time, Duration, Identity, Header, Body, Reading, MaybeTime, MaybeIdentity, Exchange, PortState, PeerState, Mechanism, Config, Ids, Port, Outcome, Measurement, Context, Action}
+use Rattle.rules.specs.Names.{Time, Duration, Identity, Header, Body, Exchange, PortState, PeerState, Mechanism, Config, Ids, Port, Outcome, Measurement, Context, Action, Received}
 use Rattle.rules.specs.Worked.{Worked, worked, refused, ◌then◌, less_correction, plus_correction, elapsed, less_duration}
 use Rattle.rules.specs.Events.{Event, event, stamp, delay_timer, Done, nothing, reading, Brings}
 use Rattle.rules.specs.Exchanges.{stays, becomes, peer_stamped, responded, responded_later}
@@ -54,13 +54,13 @@ use Rattle.undisturbed.specs.PeerSideLaws.{heard_of, known_by}
 
 -- ---- the responder is known as soon as a time came from him
 
-known_only : (source i : Identity) → i ≡ source → (b : Bool) → OnlyBy source (cond b (MaybeIdentity.Some i) MaybeIdentity.None)
+known_only : (source i : Identity) → i ≡ source → (b : Bool) → OnlyBy source (cond b (Some i) None)
 known_only source i e true = e
 known_only source i e false = tt
 
-known_later : (i : Identity) (rr r : MaybeTime) (t : Time) → MaybeIdentity.Some i ≡ known_by i (record { send = MaybeTime.None; receive = r; request_receive = rr; response_send = MaybeTime.Some t })
-known_later i MaybeTime.None r t = refl
-known_later i (MaybeTime.Some u) r t = refl
+known_later : (i : Identity) (rr r : Option Time) (t : Time) → Some i ≡ known_by i (record { send = None; receive = r; request_receive = rr; response_send = Some t })
+known_later i None r t = refl
+known_later i (Some u) r t = refl
 
 module _ (c : Config) (master : Identity) (room : ℕ) (peer_to_peer : c.mechanism ≡ Mechanism.Peer) where
   module _ (ids : Ids) where
@@ -87,18 +87,18 @@ module _ (c : Config) (master : Identity) (room : ℕ) (peer_to_peer : c.mechani
         -- a response brings two times, and one-step a third
         abbrev with_response : Bool → Time → Time → Bag
         with_response two body t =
-            record { send = v.send; receive = MaybeTime.Some t; request_receive = MaybeTime.Some body; response_send = cond two v.response_send (MaybeTime.Some body) }
+            record { send = v.send; receive = Some t; request_receive = Some body; response_send = cond two v.response_send (Some body) }
 
         response_fills : (two : Bool) (body : Time) (z came : ℤ) (t : Time) → time body ≡ z → time t ≡ came → FillsAll (response_times two z came) v (with_response two body t)
         response_fills true body z came t e f = record { send = refl; receive = f; request_receive = e; response_send = refl }
         response_fills false body z came t e f = record { send = refl; receive = f; request_receive = e; response_send = e }
 
-        response_stores : (two : Bool) (at : Time) (message : List ℕ) (h : Header) (w : WireTimestamp) (requester : Identity) (u : Time) → reading c message ≡ Reading.Message h (Body.PDelayResp w requester) u → FromResponder c.identity i id h requester → two_step h ≡ two → overlap (times_of c es) (times_in c (event at message)) ≡ false → PeerStores (event at message) v
+        response_stores : (two : Bool) (at : Time) (message : List ℕ) (h : Header) (w : WireTimestamp) (requester : Identity) (u : Time) → reading c message ≡ Ok (Received.Message h (Body.PDelayResp w requester) u) → FromResponder c.identity i id h requester → two_step h ≡ two → overlap (times_of c es) (times_in c (event at message)) ≡ false → PeerStores (event at message) v
         unfolding on_event p_delay_resp responded
         response_stores two at message h w requester u reads from steps missing =
             let came : ℤ = time at -ℤ correction h.correction in
             let brings : times_in c (event at message) ≡ response_times two (wire w) came = event_times_lem h (Body.PDelayResp w requester) u c at message reads ∙ (λ j. response_times (steps j) (wire w) came) in
-            let no_receive : v.receive ≡ MaybeTime.None = lacks_receive (times_of c es) (times_in c (event at message)) v held missing came (ap (λ (a : Times). a.receive) brings) in
+            let no_receive : v.receive ≡ None = lacks_receive (times_of c es) (times_in c (event at message)) v held missing came (ap (λ (a : Times). a.receive) brings) in
             let sum : Worked Time = less_correction at h in
             let made : Time → PeerState = λ t. peer_with id i (with_response two u t) in
             record {
@@ -111,7 +111,7 @@ module _ (c : Config) (master : Identity) (room : ℕ) (peer_to_peer : c.mechani
                   event_rule_is h (Body.PDelayResp w requester) u p at message reads
                   ∙ ap (λ (y : Worked Done). cond (ours c h) y (refused Outcome.Foreign))
                   (answer_is p id h from.same_id requester (sym from.to_us) (known_by i v) v.send v.request_receive v.response_send v.receive (known_only h.source i (sym from.source) (heard_of v)) _ sum made
-                  (λ j. cond (eq-eqb id h.id (sym from.same_id) j) (cond (there (no_receive j)) (worked stays) (sum then λ t. worked (becomes (PeerState.Measuring id (MaybeIdentity.Some (from.source j)) v.send (MaybeTime.Some u) (cond (steps j) v.response_send (MaybeTime.Some u)) (MaybeTime.Some t))))) (worked stays)));
+                  (λ j. cond (eq-eqb id h.id (sym from.same_id) j) (cond (there (no_receive j)) (worked stays) (sum then λ t. worked (becomes (PeerState.Measuring id (Some (from.source j)) v.send (Some u) (cond (steps j) v.response_send (Some u)) (Some t))))) (worked stays)));
               fills = all_map (λ t. time t ≡ came) _ Silent sum (λ t worth. subst (λ (a : Times). FillsAll a v (with_response two u t)) (sym brings) (response_fills two u (wire w) came t (wire-time h (Body.PDelayResp w requester) u message reads) worth)) (less_worth at h);
             }
 
@@ -120,7 +120,7 @@ module _ (c : Config) (master : Identity) (room : ℕ) (peer_to_peer : c.mechani
         follow_up_stores e h w requester u brought from missing =
             let left : ℤ = wire w +ℤ correction h.correction in
             let brings : times_in c e ≡ responded_at left = brought_times h (Body.PDelayRespFollowUp w requester) u c (λ at. refl) e brought in
-            let no_send : v.response_send ≡ MaybeTime.None = lacks_response_send (times_of c es) (times_in c e) v held missing left (ap (λ (a : Times). a.response_send) brings) in
+            let no_send : v.response_send ≡ None = lacks_response_send (times_of c es) (times_in c e) v held missing left (ap (λ (a : Times). a.response_send) brings) in
             let sum : Worked Time = plus_correction u h in
             let made : Time → PeerState = λ t. peer_with id i (with_response_send v t) in
             record {
@@ -130,7 +130,7 @@ module _ (c : Config) (master : Identity) (room : ℕ) (peer_to_peer : c.mechani
               next_bag = with_response_send v;
               rule = λ x z fx.
                   let p : Port = asks c master room (holding_peer id i v) x z in
-                  let g : p_delay_resp_follow_up p h requester u ≡ (sum then λ t. settle (with_peer p (made t))) = answer_is p id h from.same_id requester (sym from.to_us) (known_by i v) v.send v.request_receive v.response_send v.receive (known_only h.source i (sym from.source) (heard_of v)) _ sum made ((λ j. cond (eq-eqb id h.id (sym from.same_id) j) (cond (there (no_send j)) (worked stays) (sum then λ t. worked (becomes (PeerState.Measuring id (MaybeIdentity.Some (from.source j)) v.send v.request_receive (MaybeTime.Some t) v.receive)))) (worked stays)) ∙ (λ j. sum then λ t. worked (becomes (PeerState.Measuring id (known_later i v.request_receive v.receive t j) v.send v.request_receive (MaybeTime.Some t) v.receive)))) in
+                  let g : p_delay_resp_follow_up p h requester u ≡ (sum then λ t. settle (with_peer p (made t))) = answer_is p id h from.same_id requester (sym from.to_us) (known_by i v) v.send v.request_receive v.response_send v.receive (known_only h.source i (sym from.source) (heard_of v)) _ sum made ((λ j. cond (eq-eqb id h.id (sym from.same_id) j) (cond (there (no_send j)) (worked stays) (sum then λ t. worked (becomes (PeerState.Measuring id (Some (from.source j)) v.send v.request_receive (Some t) v.receive)))) (worked stays)) ∙ (λ j. sum then λ t. worked (becomes (PeerState.Measuring id (known_later i v.request_receive v.receive t j) v.send v.request_receive (Some t) v.receive)))) in
                   brought_rule_is h (Body.PDelayRespFollowUp w requester) u p _ (λ at. g) g e brought;
               fills = all_map (λ t. time t ≡ time u +ℤ correction h.correction) _ Silent sum (λ t worth. subst (λ (a : Times). FillsAll a v (with_response_send v t)) (sym brings) (record { send = refl; receive = refl; request_receive = refl; response_send = worth ∙ ap (λ (x : ℤ). x +ℤ correction h.correction) (brought_time h (Body.PDelayRespFollowUp w requester) u c e brought) })) (plus_worth u h);
             }
@@ -173,7 +173,7 @@ module _ (c : Config) (master : Identity) (room : ℕ) (peer_to_peer : c.mechani
       -- with all four there, the responder is known
       full_peer : {A : Type 0} (a : Times) (v : Bag) (b : FourThere a v) (missing : A) (k : ℕ → Identity → Time → Time → Time → Time → A) → peer_complete (peer_with id i v) missing k ≡ k id i b.t1 b.t2 b.t3 b.t4
       full_peer a v b missing k =
-          λ j. both (b.t1_is j) (b.t2_is j) missing (λ r s. both (b.t3_is j) (b.t4_is j) missing (λ t u. known (cond (there (b.t2_is j) || there (b.t3_is j) || there (b.t4_is j)) (MaybeIdentity.Some i) MaybeIdentity.None) missing (λ n. k id n r s t u)))
+          λ j. both (b.t1_is j) (b.t2_is j) missing (λ r s. both (b.t3_is j) (b.t4_is j) missing (λ t u. known (cond (there (b.t2_is j) || there (b.t3_is j) || there (b.t4_is j)) (Some i) None) missing (λ n. k id n r s t u)))
 
       peer_completes : (a : Times) (v : Bag) → HoldsAll a v → finished (request_of c.mechanism a) ≡ true → (z : Shared) → PeerCompletes a v z
       peer_completes a v h full z =

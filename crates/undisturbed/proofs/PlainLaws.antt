@@ -4,7 +4,7 @@ use Rattle.std.proofs.Common.{ap, sym, subst, ◌∙◌}
 use mathlib.Core.List.{List, [], ◌∷◌, ◌++◌}
 use Rattle.std.proofs.Math.Seq.{take-append_seam}
 use Rattle.rules.specs.Names.{Config, Port}
-use Rattle.rules.specs.Events.{Event, Result, buffer_after}
+use Rattle.rules.specs.Events.{Event, Answered, buffer_after}
 use Rattle.rules.specs.Step.{step}
 use Rattle.rules.specs.WorkedOut.{unfinished}
 use Rattle.undisturbed.specs.Runs.{syncs, requests, a_part, the_last, within, free, Item, placed, log_of, end_of, Told}
@@ -16,7 +16,7 @@ use Rattle.undisturbed.specs.PlainLaws.{plain_reply, plain, PlainSays}
 -- ---- a run of which only the buffer's room is known
 
 -- the packet stands at the buffer's front
-reply_plain : (r : Result) (l : List ℕ) → reply_with r (buffer_after r l) ≡ plain_reply r
+reply_plain : (r : Answered) (l : List ℕ) → reply_with r (buffer_after r l) ≡ plain_reply r
 unfolding buffer_after
 reply_plain r l =
     ap (λ packet. record { outcome = r.outcome; measurement = r.measurement; packet = packet; actions = r.actions; reset = r.reset }) (take-append_seam r.sent (drop (length r.sent) l))
@@ -25,7 +25,7 @@ pub log_plain : (p : Port) (b : List ℕ) (run : List (Item Event)) → log_of h
 unfolding log_of happens
 log_plain p b [] = refl
 log_plain p b (placed place e ∷ es) =
-    let r : Result = step p (length b) e in
+    let r : Answered = step p (length b) e in
     ap (λ a. placed place (e, a) ∷ log_of happens (r.port, buffer_after r b) es) (reply_plain r b)
     ∙ ap (λ log. placed place (e, plain_reply r) ∷ log) (log_plain r.port (buffer_after r b) es ∙ ap (λ n. log_of (plain n) r.port es) (buffer_length p e b))
 
@@ -33,7 +33,7 @@ pub end_plain : (p : Port) (b : List ℕ) (run : List (Item Event)) → (end_of 
 unfolding end_of happens
 end_plain p b [] = refl
 end_plain p b (placed place e ∷ es) =
-    let r : Result = step p (length b) e in
+    let r : Answered = step p (length b) e in
     end_plain r.port (buffer_after r b) es ∙ ap (λ n. end_of (plain n) r.port es) (buffer_length p e b)
 
 module _ (c : Config) where

@@ -1,8 +1,8 @@
 -- A message that an event brings: the rule that the event goes by, and the times that it brings to its exchange.
-use Rattle.std.specs.Prelude.{ℕ, ◌≡◌, cond, List}
+use Rattle.std.specs.Prelude.{ℕ, ◌≡◌, cond, List, Ok}
 use Rattle.std.proofs.Math.Path.{ap}
 use Rattle.std.proofs.Common.{◌∙◌}
-use Rattle.rules.specs.Names.{Time, Header, Body, Reading, Config, Port, Outcome}
+use Rattle.rules.specs.Names.{Time, Header, Body, Reading, Config, Port, Outcome, Received}
 use Rattle.rules.specs.Worked.{Worked, refused}
 use Rattle.rules.specs.Events.{Event, event, general, Done, reading, Brings}
 use Rattle.rules.specs.Rules.{on_event, on_general}
@@ -17,11 +17,11 @@ module _ (h : Header) (b : Body) (t : Time) where
   abbrev pub heard : Config → Worked Done → Worked Done
   heard c w = cond (ours c h) w (refused Outcome.Foreign)
 
-  pub event_rule_is : (p : Port) (at : Time) (message : List ℕ) → reading p.config message ≡ Reading.Message h b t → rule_of p (event at message) ≡ heard p.config (on_event p at h b t)
+  pub event_rule_is : (p : Port) (at : Time) (message : List ℕ) → reading p.config message ≡ Ok (Received.Message h b t) → rule_of p (event at message) ≡ heard p.config (on_event p at h b t)
   unfolding rule_of
   event_rule_is p at message r = ap (λ (x : Reading). viewed p.config x (on_event p at)) r
 
-  pub general_rule_is : (p : Port) (message : List ℕ) → reading p.config message ≡ Reading.Message h b t → rule_of p (general message) ≡ heard p.config (on_general p h b t)
+  pub general_rule_is : (p : Port) (message : List ℕ) → reading p.config message ≡ Ok (Received.Message h b t) → rule_of p (general message) ≡ heard p.config (on_general p h b t)
   unfolding rule_of
   general_rule_is p message r = ap (λ (x : Reading). viewed p.config x (on_general p)) r
 
@@ -30,7 +30,7 @@ module _ (h : Header) (b : Body) (t : Time) where
   brought_rule_is p w f g =
       by_entry h b t (λ e. rule_of p e ≡ heard p.config w) (λ at message r. event_rule_is p at message r ∙ ap (heard p.config) (f at)) (λ message r. general_rule_is p message r ∙ ap (heard p.config) g) p.config
 
-  pub event_times_lem : (c : Config) (at : Time) (message : List ℕ) → reading c message ≡ Reading.Message h b t → times_in c (event at message) ≡ event_times at h b
+  pub event_times_lem : (c : Config) (at : Time) (message : List ℕ) → reading c message ≡ Ok (Received.Message h b t) → times_in c (event at message) ≡ event_times at h b
   unfolding times_in
   event_times_lem c at message r = ap (of_reading no_times (λ h b u. event_times at h b)) r
 

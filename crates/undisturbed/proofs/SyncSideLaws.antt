@@ -1,5 +1,5 @@
 -- The sync exchange as a side of the record: a Sync and its FollowUp, or a one-step Sync, each for itself.
-use Rattle.std.specs.Prelude.{ℕ, ◌≡◌, Bool, true, not, ◌+ℤ◌, ◌-ℤ◌}
+use Rattle.std.specs.Prelude.{ℕ, ◌≡◌, Bool, true, not, ◌+ℤ◌, ◌-ℤ◌, Option, Some, None, Ok}
 use Rattle.std.proofs.Math.Path.{refl, sym, ap, subst}
 use Rattle.std.proofs.Common.{◌∙◌, eq-eqb}
 use Rattle.std.proofs.Math.Bool.{false, cond}
@@ -12,7 +12,7 @@ use Rattle.fitness.specs.Fit.{full}
 use Rattle.fitness.specs.FitLaws.{FitSync}
 use Rattle.fitness.proofs.FitLaws.{fit_is}
 use Rattle.record.proofs.SameLaws.{same_identity_lem}
-use Rattle.rules.specs.Names.{Time, Duration, Identity, Header, Body, Reading, MaybeTime, MaybeDuration, Exchange, Config, Port, Outcome, Measurement}
+use Rattle.rules.specs.Names.{Time, Duration, Identity, Header, Body, Exchange, Config, Port, Outcome, Measurement, Received}
 use Rattle.rules.specs.Worked.{Worked, worked, refused, ◌then◌, less_correction, plus_correction, elapsed, less_duration}
 use Rattle.rules.specs.Events.{Event, event, Done, nothing, reading, Brings, answered}
 use Rattle.rules.specs.Exchanges.{becomes, synced, two_step_sync, one_step_sync, followed_up}
@@ -46,22 +46,22 @@ use Rattle.undisturbed.specs.SyncSideLaws.{sync_with, holding_sync}
 
 -- ---- an exchange by its times; without any it is none
 
-two_step_fills : (id : ℕ) (s : MaybeTime) (t : Time) → two_step_sync id t (sync_with id s MaybeTime.None) ≡ becomes (sync_with id s (MaybeTime.Some t))
+two_step_fills : (id : ℕ) (s : Option Time) (t : Time) → two_step_sync id t (sync_with id s None) ≡ becomes (sync_with id s (Some t))
 unfolding two_step_sync
-two_step_fills id MaybeTime.None t = refl
-two_step_fills id (MaybeTime.Some s) t =
-    λ i. cond (eq-eqb id id refl i) (becomes (Exchange.Measuring id (MaybeTime.Some s) (MaybeTime.Some t))) (becomes (Exchange.Measuring id MaybeTime.None (MaybeTime.Some t)))
+two_step_fills id None t = refl
+two_step_fills id (Some s) t =
+    λ i. cond (eq-eqb id id refl i) (becomes (Exchange.Measuring id (Some s) (Some t))) (becomes (Exchange.Measuring id None (Some t)))
 
-follow_up_fills : (id : ℕ) (r : MaybeTime) (t : Time) → followed_up id t (sync_with id MaybeTime.None r) ≡ becomes (sync_with id (MaybeTime.Some t) r)
+follow_up_fills : (id : ℕ) (r : Option Time) (t : Time) → followed_up id t (sync_with id None r) ≡ becomes (sync_with id (Some t) r)
 unfolding followed_up
-follow_up_fills id MaybeTime.None t = refl
-follow_up_fills id (MaybeTime.Some r) t =
-    λ i. cond (eq-eqb id id refl i) (becomes (Exchange.Measuring id (MaybeTime.Some t) (MaybeTime.Some r))) (becomes (Exchange.Measuring id (MaybeTime.Some t) MaybeTime.None))
+follow_up_fills id None t = refl
+follow_up_fills id (Some r) t =
+    λ i. cond (eq-eqb id id refl i) (becomes (Exchange.Measuring id (Some t) (Some r))) (becomes (Exchange.Measuring id (Some t) None))
 
-complete_sync : {A : Type 0} (id : ℕ) (s r : MaybeTime) (missing : A) (k : Time → Time → A) → complete (sync_with id s r) missing k ≡ both s r missing k
-complete_sync id MaybeTime.None MaybeTime.None missing k = refl
-complete_sync id MaybeTime.None (MaybeTime.Some r) missing k = refl
-complete_sync id (MaybeTime.Some s) r missing k = refl
+complete_sync : {A : Type 0} (id : ℕ) (s r : Option Time) (missing : A) (k : Time → Time → A) → complete (sync_with id s r) missing k ≡ both s r missing k
+complete_sync id None None missing k = refl
+complete_sync id None (Some r) missing k = refl
+complete_sync id (Some s) r missing k = refl
 
 module _ (c : Config) (master : Identity) (room : ℕ) where
   abbrev pub FitOther : Asking → Type 0
@@ -74,7 +74,7 @@ module _ (c : Config) (master : Identity) (room : ℕ) where
 
   module _ (id : ℕ) (h : Header) (from : FromMaster master id h) where
     -- a Sync: the exchange that it finds becomes another
-    sync_stores : (at u : Time) (message : List ℕ) (w : WireTimestamp) → reading c message ≡ Reading.Message h (Body.Sync w) u → (v : Bag) (next_bag : Time → Bag) → ((t : Time) → synced h u t (holding_sync id v) ≡ becomes (holding_sync id (next_bag t))) → All (λ t. FillsAll (times_in c (event at message)) v (next_bag t)) (less_correction at h) → SyncStores id (event at message) v
+    sync_stores : (at u : Time) (message : List ℕ) (w : WireTimestamp) → reading c message ≡ Ok (Received.Message h (Body.Sync w) u) → (v : Bag) (next_bag : Time → Bag) → ((t : Time) → synced h u t (holding_sync id v) ≡ becomes (holding_sync id (next_bag t))) → All (λ t. FillsAll (times_in c (event at message)) v (next_bag t)) (less_correction at h) → SyncStores id (event at message) v
     unfolding on_event sync
     sync_stores at u message w reads v next_bag made fills =
         record {
@@ -90,14 +90,14 @@ module _ (c : Config) (master : Identity) (room : ℕ) where
         }
 
     module _ (es : List Event) (v : Bag) (held : HoldsAll (times_of c es) v) where
-      module _ (at u : Time) (message : List ℕ) (w : WireTimestamp) (reads : reading c message ≡ Reading.Message h (Body.Sync w) u) (missing : overlap (times_of c es) (times_in c (event at message)) ≡ false) where
+      module _ (at u : Time) (message : List ℕ) (w : WireTimestamp) (reads : reading c message ≡ Ok (Received.Message h (Body.Sync w) u)) (missing : overlap (times_of c es) (times_in c (event at message)) ≡ false) where
         abbrev came : ℤ
         came = time at -ℤ correction h.correction
 
         brings : (two : Bool) → two_step h ≡ two → times_in c (event at message) ≡ sync_times two (wire w) came
         brings two t = event_times_lem h (Body.Sync w) u c at message reads ∙ (λ i. sync_times (t i) (wire w) came)
 
-        no_receive : v.receive ≡ MaybeTime.None
+        no_receive : v.receive ≡ None
         no_receive =
             lacks_receive (times_of c es) (times_in c (event at message)) v held missing came (ap (λ (a : Times). a.receive) (brings (two_step h) refl))
 
@@ -112,7 +112,7 @@ module _ (c : Config) (master : Identity) (room : ℕ) where
         one_step_stores : two_step h ≡ false → SyncStores id (event at message) v
         unfolding one_step_sync
         one_step_stores one =
-            let no_send : v.send ≡ MaybeTime.None = lacks_send (times_of c es) (times_in c (event at message)) v held missing (wire w) (ap (λ (a : Times). a.send) (brings false one)) in
+            let no_send : v.send ≡ None = lacks_send (times_of c es) (times_in c (event at message)) v held missing (wire w) (ap (λ (a : Times). a.send) (brings false one)) in
             sync_stores at u message w reads v (λ t. with_send (with_receive v t) u)
             (λ t i. cond (one i) (two_step_sync h.id t (holding_sync id v)) (one_step_sync (from.same_id i) u t (sync_with id (no_send i) (no_receive i))))
             (all_map (λ t. time t ≡ came) _ Silent (less_correction at h) (λ t worth. subst (λ (a : Times). FillsAll a v (with_send (with_receive v t) u)) (sym (brings false one)) (record { send = wire-time h (Body.Sync w) u message reads; receive = worth; request_receive = refl; response_send = refl })) (less_worth at h))
@@ -122,7 +122,7 @@ module _ (c : Config) (master : Identity) (room : ℕ) where
       follow_up_stores e u w brought missing =
           let left : ℤ = wire w +ℤ correction h.correction in
           let brings : times_in c e ≡ sent_at left = brought_times h (Body.FollowUp w) u c (λ at. refl) e brought in
-          let no_send : v.send ≡ MaybeTime.None = lacks_send (times_of c es) (times_in c e) v held missing left (ap (λ (a : Times). a.send) brings) in
+          let no_send : v.send ≡ None = lacks_send (times_of c es) (times_in c e) v held missing left (ap (λ (a : Times). a.send) brings) in
           let made : (t : Time) → followed_up h.id t (holding_sync id v) ≡ becomes (holding_sync id (with_send v t)) = λ t. (λ i. followed_up (from.same_id i) t (sync_with id (no_send i) v.receive)) ∙ follow_up_fills id v.receive t in
           record {
             guard = ours c h;
@@ -140,16 +140,16 @@ module _ (c : Config) (master : Identity) (room : ℕ) where
 
   module _ (z : Shared) (send receive : Time) where
     -- the raw offset, kept, and what is measured
-    abbrev packed : Duration → MaybeDuration → Shared × Measurement
-    packed raw offset = (record { raw = MaybeDuration.Some raw; mean = z.mean }, Measurement.Sync receive raw offset)
+    abbrev packed : Duration → Option Duration → Shared × Measurement
+    packed raw offset = (record { raw = Some raw; mean = z.mean }, Measurement.Sync receive raw offset)
 
     abbrev sync_sum : Worked (Shared × Measurement)
     sync_sum =
         three_steps (elapsed receive send) (λ d. less_duration d c.asymmetry) (λ d raw. less_mean raw z.mean) (λ d raw offset. packed raw offset)
 
-    mean_comes : (raw : Duration) (m : MaybeDuration) → Comes Anything NotTaken (less_mean raw m)
-    mean_comes raw MaybeDuration.None = tt
-    mean_comes raw (MaybeDuration.Some m) =
+    mean_comes : (raw : Duration) (m : Option Duration) → Comes Anything NotTaken (less_mean raw m)
+    mean_comes raw None = tt
+    mean_comes raw (Some m) =
         all_then Anything NotTaken (less_duration raw m) _ (all_less NotTaken not_taken.range raw m) (λ o e. tt)
 
     sync_comes : Comes Anything NotTaken sync_sum

@@ -1,12 +1,11 @@
 -- The times that the events of an exchange have brought, beside those that the record holds: an event that brings what is missing stores just that.
-use Rattle.std.specs.Prelude.{ℕ, ◌≡◌, refl, Bool, true, false, ◌&&◌, List, [], ◌∷◌, ◌++◌, ℤ}
+use Rattle.std.specs.Prelude.{ℕ, ◌≡◌, refl, Bool, true, false, ◌&&◌, List, [], ◌∷◌, ◌++◌, ℤ, Option, Some, None}
 use Rattle.std.proofs.Common.{sym, ap, ◌∙◌, subst, true≢false}
 use Rattle.std.proofs.Math.Bool.{and_assoc, and-true}
-use Rattle.std.proofs.Math.Option.{Option, none, some}
 use Rattle.time.specs.Units.{time}
 use Rattle.octets.proofs.BytesLaws.{apart, neither}
 use Rattle.fitness.specs.Fit.{there}
-use Rattle.rules.specs.Names.{Time, MaybeTime, Mechanism, Config}
+use Rattle.rules.specs.Names.{Time, Mechanism, Config}
 use Rattle.rules.specs.Events.{Event}
 use Rattle.rules.specs.WorkedOut.{Completed}
 use Rattle.undisturbed.specs.Times.{Times, no_times, times_in, times_of, earlier_of, and_then, if_given, request_of}
@@ -14,13 +13,13 @@ use Rattle.undisturbed.specs.TimesLaws.{both_given, overlap, finished, Bag, empt
 
 -- ---- one event more
 
-or_none_lem : {A : Type 0} (a : Option A) → earlier_of a none ≡ a
-or_none_lem none = refl
-or_none_lem (some a) = refl
+or_none_lem : {A : Type 0} (a : Option A) → earlier_of a None ≡ a
+or_none_lem None = refl
+or_none_lem (Some a) = refl
 
 or_or : {A : Type 0} (a b d : Option A) → earlier_of (earlier_of a b) d ≡ earlier_of a (earlier_of b d)
-or_or none b d = refl
-or_or (some a) b d = refl
+or_or None b d = refl
+or_or (Some a) b d = refl
 
 then_none : (a : Times) → and_then a no_times ≡ a
 then_none a =
@@ -48,11 +47,11 @@ none_held = record { send = tt; receive = tt; request_receive = tt; response_sen
 
 -- ---- what an event stores: where it brings nothing, the time that was held; else a time worth what it brings
 
-filled_holds : (a b : Option ℤ) (m n : MaybeTime) → Holds a m → both_given a b ≡ false → Fills b m n → Holds (earlier_of a b) n
-filled_holds none none m n h o f = subst (Holds none) (sym f) h
-filled_holds (some z) none m n h o f = subst (Holds (some z)) (sym f) h
-filled_holds none (some y) m n h o f = f
-filled_holds (some z) (some y) m n h o f = absurd (apart cc)
+filled_holds : (a b : Option ℤ) (m n : Option Time) → Holds a m → both_given a b ≡ false → Fills b m n → Holds (earlier_of a b) n
+filled_holds None None m n h o f = subst (Holds None) (sym f) h
+filled_holds (Some z) None m n h o f = subst (Holds (Some z)) (sym f) h
+filled_holds None (Some y) m n h o f = f
+filled_holds (Some z) (Some y) m n h o f = absurd (apart cc)
 
 none_twice : (a b : Times) → overlap a b ≡ false → NoneTwice a b
 none_twice a b o =
@@ -73,23 +72,23 @@ fills_hold a b v w h o f =
 
 -- ---- a time that an event brings is missing in the record
 
-lacking : (a b : Option ℤ) (z : ℤ) (m : MaybeTime) → Holds a m → both_given a b ≡ false → b ≡ some z → m ≡ MaybeTime.None
-lacking none b z MaybeTime.None h o e = refl
-lacking none b z (MaybeTime.Some t) h o e = absurd h
-lacking (some y) b z m h o e = absurd (apart (given_both b e o))
+lacking : (a b : Option ℤ) (z : ℤ) (m : Option Time) → Holds a m → both_given a b ≡ false → b ≡ Some z → m ≡ None
+lacking None b z None h o e = refl
+lacking None b z (Some t) h o e = absurd h
+lacking (Some y) b z m h o e = absurd (apart (given_both b e o))
   where
-    given_both : (b : Option ℤ) → b ≡ some z → both_given (some y) b ≡ false → ◌≡◌ {A = ℕ} 0 1
-    given_both none e o = cc
-    given_both (some x) e o = cc
+    given_both : (b : Option ℤ) → b ≡ Some z → both_given (Some y) b ≡ false → ◌≡◌ {A = ℕ} 0 1
+    given_both None e o = cc
+    given_both (Some x) e o = cc
 
 module _ (a b : Times) (v : Bag) (h : HoldsAll a v) (o : overlap a b ≡ false) (z : ℤ) where
-  pub lacks_send : b.send ≡ some z → v.send ≡ MaybeTime.None
+  pub lacks_send : b.send ≡ Some z → v.send ≡ None
   lacks_send e = lacking a.send b.send z v.send h.send (none_twice a b o).send e
 
-  pub lacks_receive : b.receive ≡ some z → v.receive ≡ MaybeTime.None
+  pub lacks_receive : b.receive ≡ Some z → v.receive ≡ None
   lacks_receive e = lacking a.receive b.receive z v.receive h.receive (none_twice a b o).receive e
 
-  pub lacks_response_send : b.response_send ≡ some z → v.response_send ≡ MaybeTime.None
+  pub lacks_response_send : b.response_send ≡ Some z → v.response_send ≡ None
   lacks_response_send e = lacking a.response_send b.response_send z v.response_send h.response_send (none_twice a b o).response_send e
 
 -- ---- two times, of which an exchange is made of: one is missing, or both are there
@@ -98,37 +97,37 @@ module _ (made : ℤ → ℤ → Completed) (finishes : (x y : ℤ) → finished
   abbrev pub of_two : Option ℤ → Option ℤ → Completed
   of_two a b = if_given a (λ x. if_given b (λ y. made x y))
 
-  pub one_missing : (a b : Option ℤ) (m n : MaybeTime) → Holds a m → Holds b n → finished (of_two a b) ≡ false → there m && there n ≡ false
-  one_missing none b MaybeTime.None n h j e = refl
-  one_missing none b (MaybeTime.Some t) n h j e = absurd h
-  one_missing (some x) none MaybeTime.None n h j e = absurd h
-  one_missing (some x) none (MaybeTime.Some t) MaybeTime.None h j e = refl
-  one_missing (some x) none (MaybeTime.Some t) (MaybeTime.Some u) h j e = absurd j
-  one_missing (some x) (some y) m n h j e = absurd (true≢false (sym (finishes x y) ∙ e))
+  pub one_missing : (a b : Option ℤ) (m n : Option Time) → Holds a m → Holds b n → finished (of_two a b) ≡ false → there m && there n ≡ false
+  one_missing None b None n h j e = refl
+  one_missing None b (Some t) n h j e = absurd h
+  one_missing (Some x) None None n h j e = absurd h
+  one_missing (Some x) None (Some t) None h j e = refl
+  one_missing (Some x) None (Some t) (Some u) h j e = absurd j
+  one_missing (Some x) (Some y) m n h j e = absurd (true≢false (sym (finishes x y) ∙ e))
 
-  pub record BothThere (a b : Option ℤ) (m n : MaybeTime) : Type 0 where
+  pub record BothThere (a b : Option ℤ) (m n : Option Time) : Type 0 where
     pub first : Time
     pub second : Time
-    pub first_is : m ≡ MaybeTime.Some first
-    pub second_is : n ≡ MaybeTime.Some second
+    pub first_is : m ≡ Some first
+    pub second_is : n ≡ Some second
     pub worth : of_two a b ≡ made (time first) (time second)
 
-  pub both_there : (a b : Option ℤ) (m n : MaybeTime) → Holds a m → Holds b n → finished (of_two a b) ≡ true → BothThere a b m n
-  both_there none b m n h j e = absurd (apart cc)
-  both_there (some x) none m n h j e = absurd (apart cc)
-  both_there (some x) (some y) MaybeTime.None n h j e = absurd h
-  both_there (some x) (some y) (MaybeTime.Some t) MaybeTime.None h j e = absurd j
-  both_there (some x) (some y) (MaybeTime.Some t) (MaybeTime.Some u) h j e =
+  pub both_there : (a b : Option ℤ) (m n : Option Time) → Holds a m → Holds b n → finished (of_two a b) ≡ true → BothThere a b m n
+  both_there None b m n h j e = absurd (apart cc)
+  both_there (Some x) None m n h j e = absurd (apart cc)
+  both_there (Some x) (Some y) None n h j e = absurd h
+  both_there (Some x) (Some y) (Some t) None h j e = absurd j
+  both_there (Some x) (Some y) (Some t) (Some u) h j e =
       record { first = t; second = u; first_is = refl; second_is = refl; worth = λ i. made (sym h i) (sym j i) }
 
 -- ---- the four times of a peer exchange
 
 -- while one is missing, not all are there
-missing_here : (a : Option ℤ) (m : MaybeTime) (k : ℤ → Completed) (others : Bool) → Holds a m → finished (if_given a k) ≡ false → ((z : ℤ) → finished (k z) ≡ false → others ≡ false) → there m && others ≡ false
-missing_here none MaybeTime.None k others h f g = refl
-missing_here none (MaybeTime.Some t) k others h f g = absurd h
-missing_here (some z) MaybeTime.None k others h f g = absurd h
-missing_here (some z) (MaybeTime.Some t) k others h f g = g z f
+missing_here : (a : Option ℤ) (m : Option Time) (k : ℤ → Completed) (others : Bool) → Holds a m → finished (if_given a k) ≡ false → ((z : ℤ) → finished (k z) ≡ false → others ≡ false) → there m && others ≡ false
+missing_here None None k others h f g = refl
+missing_here None (Some t) k others h f g = absurd h
+missing_here (Some z) None k others h f g = absurd h
+missing_here (Some z) (Some t) k others h f g = g z f
 
 not_finished : {A : Type 0} (x y z u : ℤ) → finished (Completed.peer x y z u) ≡ false → A
 not_finished x y z u f = absurd (true≢false f)
@@ -142,10 +141,10 @@ one_of_four_missing a v h f =
     missing_here a.response_send v.response_send _ _ h.response_send fy (λ z fz.
     sym (and-true (there v.receive)) ∙ missing_here a.receive v.receive _ true h.receive fz (λ u fu. not_finished x y z u fu))))
 
-is_held : (a : Option ℤ) (m : MaybeTime) (k : ℤ → Completed) → Holds a m → finished (if_given a k) ≡ true → IsHeld a m
-is_held none m k h f = absurd (true≢false (sym f))
-is_held (some x) MaybeTime.None k h f = absurd h
-is_held (some x) (MaybeTime.Some t) k h f = record { value = t; held_is = refl; given_is = ap some (sym h) }
+is_held : (a : Option ℤ) (m : Option Time) (k : ℤ → Completed) → Holds a m → finished (if_given a k) ≡ true → IsHeld a m
+is_held None m k h f = absurd (true≢false (sym f))
+is_held (Some x) None k h f = absurd h
+is_held (Some x) (Some t) k h f = record { value = t; held_is = refl; given_is = ap Some (sym h) }
 
 pub four_there_lem : (a : Times) (v : Bag) → HoldsAll a v → finished (request_of Mechanism.Peer a) ≡ true → FourThere a v
 four_there_lem a v h f =

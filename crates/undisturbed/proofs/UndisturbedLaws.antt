@@ -1,10 +1,10 @@
 -- Demand 3 holds: exchanges do not disturb each other (`undisturbed`); nor does what is `Harmless` (`others_stand`).
-use Rattle.std.specs.Prelude.{ℕ, ◌≡◌, refl, false, length}
+use Rattle.std.specs.Prelude.{ℕ, ◌≡◌, refl, false, length, Option, Some, None}
 use Rattle.std.proofs.Common.{sym, ap, ◌∙◌, subst, true≢false}
 use mathlib.Core.List.{List, [], ◌∷◌}
 use Rattle.record.specs.Ids.{id_after}
 use Rattle.fitness.specs.FitLaws.{FitSync, FitPeer}
-use Rattle.rules.specs.Names.{Identity, Exchange, SlaveState, PortState, PeerState, Mechanism, Config, Ids, Port, MaybeMeasurement}
+use Rattle.rules.specs.Names.{Identity, Exchange, SlaveState, PortState, PeerState, Mechanism, Config, Ids, Port, Measurement}
 use Rattle.rules.specs.Events.{Event}
 use Rattle.rules.specs.WorkedOut.{unfinished}
 use Rattle.rules.specs.Formulas.{Says}
@@ -20,7 +20,7 @@ use Rattle.undisturbed.proofs.PlainLaws.{log_plain, end_plain, told_plain}
 use Rattle.undisturbed.proofs.FrameLaws.{SyncGoes, Gathers, gathers}
 use Rattle.undisturbed.proofs.GatherLaws.{each_gathered, order_gathered}
 use Rattle.undisturbed.specs.StandingLaws.{Asking, Shared, stands, FitAsking}
-use Rattle.undisturbed.specs.LaneLaws.{Ok}
+use Rattle.undisturbed.specs.LaneLaws.{Admitted}
 use Rattle.undisturbed.proofs.RequestSideLaws.{AskingGoes}
 use Rattle.undisturbed.proofs.SyncSideLaws.{sync_goes}
 use Rattle.undisturbed.proofs.DelaySideLaws.{none_open, delay_goes}
@@ -38,12 +38,12 @@ none_there {A} a h = subst (Go A) h tt
 silent_says : (p : Port) (a : Reply) (q : Port) → measured_in a ≡ [] → PlainSays p unfinished a q
 silent_says p a q h = Go a.measurement h
   where
-    Go : (m : MaybeMeasurement) → listed m ≡ [] → Says p unfinished m q
-    Go MaybeMeasurement.None h = tt
-    Go (MaybeMeasurement.Some m) h = absurd (none_there m h)
+    Go : (m : Option Measurement) → listed m ≡ [] → Says p unfinished m q
+    Go None h = tt
+    Go (Some m) h = absurd (none_there m h)
 
 -- what is known of each event of the given run
-both_known : (run : List (Item Event)) (act : Port → Event → Port × Reply) (p : Port) → Each (λ place e. BytesIn e) run → Each TakenButForeign (log_of act p run) → Each Ok (log_of act p run)
+both_known : (run : List (Item Event)) (act : Port → Event → Port × Reply) (p : Port) → Each (λ place e. BytesIn e) run → Each TakenButForeign (log_of act p run) → Each Admitted (log_of act p run)
 unfolding Each log_of
 both_known [] act p b t = tt
 both_known (placed place e ∷ es) act p (b, bs) (t, ts) = ((t, b), both_known es act (act p e).0 bs ts)
@@ -85,7 +85,7 @@ module _ (Else : ℕ → Event → Type 0) (c : Config) (s : SlaveState) (else_f
       let id : ℕ = first_request c.mechanism ids in
       let same : log_of happens (start, buffer) run ≡ log_of (plain room) start run = log_plain start buffer run in
       let fit : FitAsking c s.master id side = record { delay = tt; peer = shut_fits q shut; only_delay = λ j o. absurd (true≢false (sym o)); only_peer = λ j o. none_open q j shut o } in
-      let g : Gathers (stands c s.master) (plain room) FitSync (FitAsking c s.master) id_after Ok measured_in PlainSays unfinished (comes_to c) silent_says start run = gathers (stands c s.master) (plain room) FitSync (FitAsking c s.master) id_after Ok measured_in PlainSays unfinished (comes_to c) silent_says run Exchange.Empty side z id tt fit (subst (SyncGoes (stands c s.master) (plain room) FitSync (FitAsking c s.master) id_after Ok measured_in PlainSays unfinished (comes_to c) silent_says [] Exchange.Empty) (sym w.sync_events) (sync_goes c s.master room w.sync_exchanges w.syncs_whole)) (subst (AskingGoes c s.master room id [] side) (sym w.request_events) (requests_go Else c s.master room (else_free room) c.mechanism refl w.request_exchanges q ids shut w.requests_whole)) (all_free Else c s.master room (else_free room) run id w.others w.bytes) (both_known run (plain room) start w.bytes (subst (Each TakenButForeign) same w.taken)) in
+      let g : Gathers (stands c s.master) (plain room) FitSync (FitAsking c s.master) id_after Admitted measured_in PlainSays unfinished (comes_to c) silent_says start run = gathers (stands c s.master) (plain room) FitSync (FitAsking c s.master) id_after Admitted measured_in PlainSays unfinished (comes_to c) silent_says run Exchange.Empty side z id tt fit (subst (SyncGoes (stands c s.master) (plain room) FitSync (FitAsking c s.master) id_after Admitted measured_in PlainSays unfinished (comes_to c) silent_says [] Exchange.Empty) (sym w.sync_events) (sync_goes c s.master room w.sync_exchanges w.syncs_whole)) (subst (AskingGoes c s.master room id [] side) (sym w.request_events) (requests_go Else c s.master room (else_free room) c.mechanism refl w.request_exchanges q ids shut w.requests_whole)) (all_free Else c s.master room (else_free room) run id w.others w.bytes) (both_known run (plain room) start w.bytes (subst (Each TakenButForeign) same w.taken)) in
       let once : Each (Once measured_in) (log_of happens (start, buffer) run) = subst (Each (Once measured_in)) (sym same) g.once in
       let answers : log_of happens (start, buffer) (gather run) ≡ gather (log_of happens (start, buffer) run) = log_plain start buffer (gather run) ∙ g.answers ∙ ap gather (sym same) in
       record {

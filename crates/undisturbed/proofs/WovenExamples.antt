@@ -1,11 +1,11 @@
 -- A run that demand 3 speaks of, end-to-end, from the bytes of its messages: exchanges woven into each other, ids that wrap, a filter answer and foreign traffic between the parts. It meets all that `undisturbed` asks; what it measures and sends is computed besides. `WovenPeerExamples` has such a run peer-to-peer, `OutsideExamples` what demand 3 does not speak of.
-use Rattle.std.specs.Prelude.{ℕ, ◌≡◌, true, false, List, [], ◌∷◌, length, eqb}
+use Rattle.std.specs.Prelude.{ℕ, ◌≡◌, true, false, List, [], ◌∷◌, length, eqb, Some, None}
 use Rattle.std.proofs.Math.Path.{refl}
 use Rattle.std.proofs.Common.{sym, ap, true≢false}
 use Rattle.octets.proofs.BytesLaws.{both}
 use Rattle.sent.specs.Messages.{no_flag}
 use Rattle.record.specs.Record.{slave_of}
-use Rattle.rules.specs.Names.{Time, Identity, Header, Body, Mechanism, Config, MaybeDuration, FilterUpdate, NewState, Context, Outcome, Measurement}
+use Rattle.rules.specs.Names.{Time, Identity, Header, Body, Mechanism, Config, FilterUpdate, NewState, Context, Outcome, Measurement}
 use Rattle.rules.specs.Events.{Event, event, general, stamp, sync_timer, delay_timer, filter_answer, set_state, buffer_after}
 use Rattle.rules.specs.Given.{BytesIn}
 use Rattle.rules.specs.Table.{row4, row5, row6, row8}
@@ -45,7 +45,7 @@ gathered = refl
 
 -- ---- what is measured, in order: raw 90, no mean being stored yet; raw 30, and half of what 90 is above it; raw 190, and less the mean; raw 90, and less the mean; raw 40, and half of what the last raw offset is above it
 
-pub measured : found measured_in (log_of happens (p, buffer) run) ≡ Measurement.Sync (ns 1000) (lasting 90) MaybeDuration.None ∷ Measurement.Delay (ns 2000) (lasting 30) (MaybeDuration.Some (lasting 30)) ∷ Measurement.Sync (ns 2100) (lasting 190) (MaybeDuration.Some (lasting 160)) ∷ Measurement.Sync (ns 3000) (lasting 90) (MaybeDuration.Some (lasting 60)) ∷ Measurement.Delay (ns 2500) (lasting 40) (MaybeDuration.Some (lasting 25)) ∷ []
+pub measured : found measured_in (log_of happens (p, buffer) run) ≡ Measurement.Sync (ns 1000) (lasting 90) None ∷ Measurement.Delay (ns 2000) (lasting 30) (Some (lasting 30)) ∷ Measurement.Sync (ns 2100) (lasting 190) (Some (lasting 160)) ∷ Measurement.Sync (ns 3000) (lasting 90) (Some (lasting 60)) ∷ Measurement.Delay (ns 2500) (lasting 40) (Some (lasting 25)) ∷ []
 unfolding run_of happens buffer_after log_of found
 measured = refl
 

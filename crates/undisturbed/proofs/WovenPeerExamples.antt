@@ -1,10 +1,10 @@
 -- A run that demand 3 speaks of, peer-to-peer: as in `WovenExamples`, with the same sync exchanges and the same filter answer.
-use Rattle.std.specs.Prelude.{ℕ, ◌^◌, ◌*◌, ◌≡◌, refl, true, false, [], ◌∷◌, eqb, pos}
+use Rattle.std.specs.Prelude.{ℕ, ◌^◌, ◌*◌, ◌≡◌, refl, true, false, [], ◌∷◌, eqb, pos, Some, None}
 use Rattle.std.proofs.Common.{sym, ap, true≢false}
 use Rattle.wire.specs.Layout.{two_step_flag}
 use Rattle.sent.specs.Messages.{no_flag}
 use Rattle.record.specs.Record.{slave_of}
-use Rattle.rules.specs.Names.{Identity, Header, Body, Mechanism, MaybeDuration, Outcome, Measurement}
+use Rattle.rules.specs.Names.{Identity, Header, Body, Mechanism, Outcome, Measurement}
 use Rattle.rules.specs.Events.{buffer_after}
 use Rattle.rules.specs.Table.{row4, row5, row6, row8}
 use Rattle.undisturbed.specs.Runs.{gather_from, gather, lane, joined, Each, log_of, found}
@@ -25,7 +25,7 @@ gathered = refl
 
 -- ---- what is measured, in order: raw 90, no mean being stored yet; 30.5 ns, half of 101 less 40; raw 190 and raw 90, each less the mean; 40 ns
 
-pub measured : found measured_in (log_of happens (p, buffer) run) ≡ Measurement.Sync (ns 1000) (lasting 90) MaybeDuration.None ∷ Measurement.Peer (ns 1101) (in_units (pos (61 * 2 ^ 31))) ∷ Measurement.Sync (ns 2100) (lasting 190) (MaybeDuration.Some (lasting 160)) ∷ Measurement.Sync (ns 3000) (lasting 90) (MaybeDuration.Some (lasting 60)) ∷ Measurement.Peer (ns 2080) (lasting 40) ∷ []
+pub measured : found measured_in (log_of happens (p, buffer) run) ≡ Measurement.Sync (ns 1000) (lasting 90) None ∷ Measurement.Peer (ns 1101) (in_units (pos (61 * 2 ^ 31))) ∷ Measurement.Sync (ns 2100) (lasting 190) (Some (lasting 160)) ∷ Measurement.Sync (ns 3000) (lasting 90) (Some (lasting 60)) ∷ Measurement.Peer (ns 2080) (lasting 40) ∷ []
 unfolding run_of happens buffer_after log_of found
 measured = refl
 

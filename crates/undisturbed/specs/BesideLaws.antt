@@ -1,6 +1,5 @@
 -- What the laws of proofs/BesideLaws.antt speak of.
-use Rattle.std.specs.Prelude.{List, []}
-use Rattle.std.proofs.Math.Option.{Option, none}
+use Rattle.std.specs.Prelude.{List, [], Option, None}
 use Rattle.rules.specs.Names.{Message, Action}
 use Rattle.undisturbed.specs.StandingLaws.{Shared}
 
@@ -12,4 +11,4 @@ pub record Said : Type 0 where
 
 -- nothing at all
 abbrev pub silence : Shared → Said
-silence z = record { shared = z; message = none; actions = [] }
+silence z = record { shared = z; message = None; actions = [] }

@@ -1,8 +1,8 @@
 -- What the laws of proofs/LaneLaws.antt speak of.
-use Rattle.std.specs.Prelude.{◌≡◌, Bool}
+use Rattle.std.specs.Prelude.{◌≡◌, Bool, Option}
 use Rattle.std.proofs.Math.Bool.{true, false}
 use mathlib.Core.List.{List, [], ◌∷◌, ◌++◌}
-use Rattle.rules.specs.Names.{Config, Outcome, MaybeMeasurement}
+use Rattle.rules.specs.Names.{Config, Outcome, Measurement}
 use Rattle.rules.specs.Events.{Event}
 use Rattle.rules.specs.Given.{BytesIn}
 use Rattle.undisturbed.specs.Runs.{Lane, new, again, in_full, short, a_part, the_last, Place, within, free, Item, placed}
@@ -11,11 +11,11 @@ use Rattle.undisturbed.specs.Undisturbed.{Reply, TakenButForeign}
 use Rattle.undisturbed.specs.TimesLaws.{overlap, finished}
 
 -- what is known of an event of the given run
-abbrev pub Ok : Place → Event × Reply → Type 0
-Ok place a = TakenButForeign place a × BytesIn a.0
+abbrev pub Admitted : Place → Event × Reply → Type 0
+Admitted place a = TakenButForeign place a × BytesIn a.0
 
 -- answered 0, with a measurement or without
-abbrev pub replied : MaybeMeasurement → Reply
+abbrev pub replied : Option Measurement → Reply
 replied m = record { outcome = Outcome.Taken; measurement = m; packet = []; actions = []; reset = false }
 
 -- ---- an exchange as its proof takes it: each event brings what is missing, and the last what is missing last

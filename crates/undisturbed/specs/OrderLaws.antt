@@ -1,8 +1,7 @@
 -- What the laws of proofs/OrderLaws.antt speak of.
-use Rattle.std.specs.Prelude.{Bool, true, ◌&&◌, ◌||◌, not, ℤ}
+use Rattle.std.specs.Prelude.{Bool, true, ◌&&◌, ◌||◌, not, ℤ, Option, Some, None}
 use Rattle.std.proofs.Math.Bool.{false}
 use mathlib.Core.List.{List, [], ◌∷◌}
-use Rattle.std.proofs.Math.Option.{Option, none, some}
 use Rattle.rules.specs.Events.{Event}
 use Rattle.undisturbed.specs.Times.{Times}
 use Rattle.undisturbed.specs.Whole.{Piece}
@@ -16,8 +15,8 @@ pub record Shape : Type 0 where
   pub response_send : Bool
 
 abbrev pub is_given : Option ℤ → Bool
-is_given none = false
-is_given (some z) = true
+is_given None = false
+is_given (Some z) = true
 
 abbrev pub shape_of : Times → Shape
 shape_of t =

@@ -1,8 +1,8 @@
 -- What the laws of proofs/OutsideExamples.antt speak of.
-use Rattle.std.specs.Prelude.{ℕ, ◌^◌, List, [], ◌∷◌, take}
+use Rattle.std.specs.Prelude.{ℕ, ◌^◌, List, [], ◌∷◌, take, None}
 use Rattle.sent.specs.Messages.{no_flag}
 use Rattle.record.specs.Record.{state_number, with_slave, slave_of}
-use Rattle.rules.specs.Names.{Identity, Body, Mechanism, Port, MaybeDuration, Context, NewState, Measurement}
+use Rattle.rules.specs.Names.{Identity, Body, Mechanism, Port, Context, NewState, Measurement}
 use Rattle.rules.specs.Events.{Event, event, general, stamp, delay_timer, set_state}
 use Rattle.undisturbed.specs.Runs.{other, free, Item, placed, log_of, end_of, found}
 use Rattle.undisturbed.specs.Undisturbed.{happens, measured_in, Woven}
@@ -24,13 +24,13 @@ abbrev pub NotWoven : Port → List (Item Event) → Type 0
 NotWoven p run = Woven (Harmless p.config) p (slave_of master) buffer run → ⊥
 
 abbrev pub sync7_is : Measurement
-sync7_is = Measurement.Sync (ns 1000) (lasting 90) MaybeDuration.None
+sync7_is = Measurement.Sync (ns 1000) (lasting 90) None
 
 abbrev pub sync8_is : Measurement
-sync8_is = Measurement.Sync (ns 2100) (lasting 190) MaybeDuration.None
+sync8_is = Measurement.Sync (ns 2100) (lasting 190) None
 
 abbrev pub sync9_is : Measurement
-sync9_is = Measurement.Sync (ns 3000) (lasting 90) MaybeDuration.None
+sync9_is = Measurement.Sync (ns 3000) (lasting 90) None
 
 -- ---- two exchanges of one kind that overlap. A port has one sync exchange at a time: each message here replaces what the one before it opened, and none is measured. One after another both are. (A place does not say which of two exchanges of its kind an event is of, so they stand together by hand: `gather` moves nothing here.)
 
@@ -54,10 +54,10 @@ abbrev pub response_to : ℕ → ℕ → Event
 response_to id n = general (message master no_flag 0 id (Body.DelayResp (wire_ns n) us))
 
 abbrev pub delay0_is : Measurement
-delay0_is = Measurement.Delay (ns 2000) (lasting 30) MaybeDuration.None
+delay0_is = Measurement.Delay (ns 2000) (lasting 30) None
 
 abbrev pub delay1_is : Measurement
-delay1_is = Measurement.Delay (ns 3000) (lasting 40) MaybeDuration.None
+delay1_is = Measurement.Delay (ns 3000) (lasting 40) None
 
 abbrev pub late_response : List (Item Event)
 late_response =

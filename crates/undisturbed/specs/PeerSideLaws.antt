@@ -1,8 +1,8 @@
 -- What the laws of proofs/PeerSideLaws.antt speak of.
-use Rattle.std.specs.Prelude.{Bool, ◌||◌}
+use Rattle.std.specs.Prelude.{Bool, ◌||◌, Option, Some, None}
 use Rattle.std.proofs.Math.Bool.{cond}
 use Rattle.fitness.specs.Fit.{there}
-use Rattle.rules.specs.Names.{Identity, MaybeIdentity}
+use Rattle.rules.specs.Names.{Identity}
 use Rattle.undisturbed.specs.TimesLaws.{Bag}
 
 -- ---- the responder is known as soon as a time came from him
@@ -10,5 +10,5 @@ use Rattle.undisturbed.specs.TimesLaws.{Bag}
 abbrev pub heard_of : Bag → Bool
 heard_of v = there v.request_receive || there v.response_send || there v.receive
 
-abbrev pub known_by : Identity → Bag → MaybeIdentity
-known_by i v = cond (heard_of v) (MaybeIdentity.Some i) MaybeIdentity.None
+abbrev pub known_by : Identity → Bag → Option Identity
+known_by i v = cond (heard_of v) (Some i) None

@@ -4,7 +4,7 @@ use Rattle.undisturbed.specs.Runs.{syncs, requests, a_part, the_last, Place, wit
 
 -- one side, l, of what stands, put l r z: r is the other side, and z what both share. i says which exchange of the side is open or comes next
 module _ {L R Z I S E A C M : Type 0} (put : L → R → Z → S) (act : S → E → S × A) (FitL : I → L → Type 0) (FitR : R → Type 0) (next : I → I)
-    (Ok : Place → E × A → Type 0) (measured : A → List M) (Says : S → C → A → S → Type 0) (due : List E → C) where
+    (Admitted : Place → E × A → Type 0) (measured : A → List M) (Says : S → C → A → S → Type 0) (due : List E → C) where
   -- a part reads and writes its own side alone, and measures nothing
   pub record PartDone (i : I) (e : E) (l : L) (Then : L → Type 0) : Type 0 where
     pub side : L
@@ -15,7 +15,7 @@ module _ {L R Z I S E A C M : Type 0} (put : L → R → Z → S) (act : S → E
     pub goes_on : Then side
 
   abbrev pub PartGoes : I → Place → E → L → (L → Type 0) → Type 0
-  PartGoes i p e l Then = (r : R) (z : Z) → FitR r → Ok p (e, (act (put l r z) e).1) → PartDone i e l Then
+  PartGoes i p e l Then = (r : R) (z : Z) → FitR r → Admitted p (e, (act (put l r z) e).1) → PartDone i e l Then
 
   -- a last reads and writes its own side and what is shared, not the other side; what it measures is what its exchange comes to
   pub record LastDone (i : I) (p : Place) (es : List E) (e : E) (l : L) (r : R) (z : Z) (Then : L → Type 0) : Type 0 where
@@ -29,7 +29,7 @@ module _ {L R Z I S E A C M : Type 0} (put : L → R → Z → S) (act : S → E
     pub goes_on : Then side
 
   abbrev pub LastGoes : I → Place → List E → E → L → (L → Type 0) → Type 0
-  LastGoes i p es e l Then = (r : R) (z : Z) → FitR r → Ok p (e, (act (put l r z) e).1) → LastDone i p es e l r z Then
+  LastGoes i p es e l Then = (r : R) (z : Z) → FitR r → Admitted p (e, (act (put l r z) e).1) → LastDone i p es e l r z Then
 
   -- the events of this side go through, from l, with es of the open exchange behind them
   unfoldable pub Goes : I → List E → L → List (Item E) → Type 0

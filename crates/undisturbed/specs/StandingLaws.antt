@@ -1,12 +1,12 @@
 -- A Slave's record by its sides: the sync exchange, what asks for delays, and what both share. Which row answers an event depends on the sides no more than its rule does, so what one record is answered tells what all are.
-use Rattle.std.specs.Prelude.{ℕ, ◌≡◌, refl, Bool, true, false, cond}
+use Rattle.std.specs.Prelude.{ℕ, ◌≡◌, refl, Bool, true, false, cond, Option}
 use Rattle.std.proofs.Common.{sym, ◌∙◌}
 use Rattle.std.proofs.Math.Path.{ap}
 use Rattle.octets.proofs.BytesLaws.{apart}
 use Rattle.fitness.specs.Fit.{config_out, unfit}
 use Rattle.fitness.specs.FitLaws.{FitSync, FitDelay, FitPeer}
 use Rattle.fitness.proofs.FitLaws.{fit_is, fit_when}
-use Rattle.rules.specs.Names.{Identity, MaybeDuration, Exchange, SlaveState, PortState, PeerState, Mechanism, Config, Ids, Port, Outcome}
+use Rattle.rules.specs.Names.{Identity, Exchange, SlaveState, PortState, PeerState, Mechanism, Config, Ids, Port, Outcome, Duration}
 use Rattle.rules.specs.Worked.{Worked, worked, refused, ◌then◌}
 use Rattle.rules.specs.Events.{Event, Done, answered}
 use Rattle.rules.specs.Table.{row1, row3}
@@ -25,11 +25,11 @@ pub record Asking : Type 0 where
   pub ids : Ids
 
 pub record Shared : Type 0 where
-  pub raw : MaybeDuration
-  pub mean : MaybeDuration
+  pub raw : Option Duration
+  pub mean : Option Duration
 
 module _ (c : Config) (master : Identity) where
-  abbrev pub slave_with : Exchange → Exchange → MaybeDuration → SlaveState
+  abbrev pub slave_with : Exchange → Exchange → Option Duration → SlaveState
   slave_with x d raw = record { master = master; sync = x; delay = d; raw = raw }
 
   abbrev pub stands : Exchange → Asking → Shared → Port

@@ -1,6 +1,5 @@
 -- What an exchange comes to by its own events: the times that each brings, in units, as the wire fields and the stamps have them; and, when none is missing, the exchange as the formulas of 01 take it (`Formulas`). Nothing of the record is looked at.
-use Rattle.std.specs.Prelude.{Bool, cond, List, [], ◌∷◌, ℤ, ◌+ℤ◌, ◌-ℤ◌}
-use Rattle.std.proofs.Math.Option.{Option, none, some}
+use Rattle.std.specs.Prelude.{Bool, cond, List, [], ◌∷◌, ℤ, ◌+ℤ◌, ◌-ℤ◌, Option, Some, None}
 use Rattle.time.specs.Units.{time, wire, correction}
 use Rattle.wire.specs.Layout.{two_step}
 use Rattle.rules.specs.Names.{Time, Header, Body, Mechanism, Config, Context}
@@ -18,16 +17,16 @@ pub record Times : Type 0 where
   pub response_send : Option ℤ
 
 abbrev pub no_times : Times
-no_times = record { send = none; receive = none; request_receive = none; response_send = none }
+no_times = record { send = None; receive = None; request_receive = None; response_send = None }
 
 abbrev pub sent_at : ℤ → Times
-sent_at z = record { send = some z; receive = none; request_receive = none; response_send = none }
+sent_at z = record { send = Some z; receive = None; request_receive = None; response_send = None }
 
 abbrev pub received_at : ℤ → Times
-received_at z = record { send = none; receive = some z; request_receive = none; response_send = none }
+received_at z = record { send = None; receive = Some z; request_receive = None; response_send = None }
 
 abbrev pub responded_at : ℤ → Times
-responded_at z = record { send = none; receive = none; request_receive = none; response_send = some z }
+responded_at z = record { send = None; receive = None; request_receive = None; response_send = Some z }
 
 -- on either entry: FollowUp's timestamp plus correction, DelayResp's less correction, PDelayRespFollowUp's plus correction
 abbrev pub later_times : Header → Body → Times
@@ -42,11 +41,11 @@ later_times h (Body.PDelayRespFollowUp w requester) = responded_at (wire w +ℤ 
 -- on the event entry besides: the receive time less correction of Sync and PDelayResp. A one-step Sync says when it was sent; a PDelayResp when the request was received, and one-step that it left then
 abbrev pub sync_times : Bool → ℤ → ℤ → Times
 sync_times two origin came =
-    record { send = cond two none (some origin); receive = some came; request_receive = none; response_send = none }
+    record { send = cond two None (Some origin); receive = Some came; request_receive = None; response_send = None }
 
 abbrev pub response_times : Bool → ℤ → ℤ → Times
 response_times two body came =
-    record { send = none; receive = some came; request_receive = some body; response_send = cond two none (some body) }
+    record { send = None; receive = Some came; request_receive = Some body; response_send = cond two None (Some body) }
 
 abbrev pub event_times : Time → Header → Body → Times
 event_times t h (Body.Sync w) = sync_times (two_step h) (wire w) (time t -ℤ correction h.correction)
@@ -74,8 +73,8 @@ times_in c (set_state state) = no_times
 
 -- of several events, each time from the first that brings it
 abbrev pub earlier_of : {A : Type 0} → Option A → Option A → Option A
-earlier_of none b = b
-earlier_of (some a) b = some a
+earlier_of None b = b
+earlier_of (Some a) b = Some a
 
 abbrev pub and_then : Times → Times → Times
 and_then a b =
@@ -88,8 +87,8 @@ times_of c (e ∷ es) = and_then (times_in c e) (times_of c es)
 -- ---- what the times of an exchange come to: unfinished while one is missing
 
 abbrev pub if_given : Option ℤ → (ℤ → Completed) → Completed
-if_given none k = unfinished
-if_given (some z) k = k z
+if_given None k = unfinished
+if_given (Some z) k = k z
 
 abbrev pub sync_of : Times → Completed
 sync_of t = if_given t.send (λ send. if_given t.receive (λ receive. sync send receive))

@@ -1,17 +1,16 @@
 -- What the laws of proofs/TimesLaws.antt speak of.
-use Rattle.std.specs.Prelude.{◌≡◌, Bool, true, false, ◌||◌, ℤ}
-use Rattle.std.proofs.Math.Option.{Option, none, some}
+use Rattle.std.specs.Prelude.{◌≡◌, Bool, true, false, ◌||◌, ℤ, Option, Some, None}
 use Rattle.time.specs.Units.{time}
-use Rattle.rules.specs.Names.{Time, MaybeTime, Mechanism}
+use Rattle.rules.specs.Names.{Time, Mechanism}
 use Rattle.rules.specs.WorkedOut.{Completed, unfinished, sync, delay, peer}
 use Rattle.undisturbed.specs.Times.{Times, if_given, request_of}
 
 -- ---- none of the times of one is one of the other's; all that an exchange wants is there
 
 abbrev pub both_given : Option ℤ → Option ℤ → Bool
-both_given none b = false
-both_given (some a) none = false
-both_given (some a) (some b) = true
+both_given None b = false
+both_given (Some a) None = false
+both_given (Some a) (Some b) = true
 
 abbrev pub overlap : Times → Times → Bool
 overlap a b =
@@ -26,29 +25,29 @@ finished (peer a b d e) = true
 -- ---- times that are held
 
 pub record Bag : Type 0 where
-  pub send : MaybeTime
-  pub receive : MaybeTime
-  pub request_receive : MaybeTime
-  pub response_send : MaybeTime
+  pub send : Option Time
+  pub receive : Option Time
+  pub request_receive : Option Time
+  pub response_send : Option Time
 
 abbrev pub empty_bag : Bag
-empty_bag = record { send = MaybeTime.None; receive = MaybeTime.None; request_receive = MaybeTime.None; response_send = MaybeTime.None }
+empty_bag = record { send = None; receive = None; request_receive = None; response_send = None }
 
 -- with one more
 abbrev pub with_send : Bag → Time → Bag
-with_send v t = record { send = MaybeTime.Some t; receive = v.receive; request_receive = v.request_receive; response_send = v.response_send }
+with_send v t = record { send = Some t; receive = v.receive; request_receive = v.request_receive; response_send = v.response_send }
 
 abbrev pub with_receive : Bag → Time → Bag
-with_receive v t = record { send = v.send; receive = MaybeTime.Some t; request_receive = v.request_receive; response_send = v.response_send }
+with_receive v t = record { send = v.send; receive = Some t; request_receive = v.request_receive; response_send = v.response_send }
 
 abbrev pub with_response_send : Bag → Time → Bag
-with_response_send v t = record { send = v.send; receive = v.receive; request_receive = v.request_receive; response_send = MaybeTime.Some t }
+with_response_send v t = record { send = v.send; receive = v.receive; request_receive = v.request_receive; response_send = Some t }
 
-abbrev pub Holds : Option ℤ → MaybeTime → Type 0
-Holds none MaybeTime.None = Unit {0}
-Holds none (MaybeTime.Some t) = ⊥
-Holds (some z) MaybeTime.None = ⊥
-Holds (some z) (MaybeTime.Some t) = time t ≡ z
+abbrev pub Holds : Option ℤ → Option Time → Type 0
+Holds None None = Unit {0}
+Holds None (Some t) = ⊥
+Holds (Some z) None = ⊥
+Holds (Some z) (Some t) = time t ≡ z
 
 pub record HoldsAll (a : Times) (v : Bag) : Type 0 where
   pub send : Holds a.send v.send
@@ -58,9 +57,9 @@ pub record HoldsAll (a : Times) (v : Bag) : Type 0 where
 
 -- ---- what an event stores: where it brings nothing, the time that was held; else a time worth what it brings
 
-abbrev pub Fills : Option ℤ → MaybeTime → MaybeTime → Type 0
-Fills none m n = n ≡ m
-Fills (some z) m n = Holds (some z) n
+abbrev pub Fills : Option ℤ → Option Time → Option Time → Type 0
+Fills None m n = n ≡ m
+Fills (Some z) m n = Holds (Some z) n
 
 pub record FillsAll (b : Times) (v w : Bag) : Type 0 where
   pub send : Fills b.send v.send w.send
@@ -81,18 +80,18 @@ abbrev pub four : Option ℤ → Option ℤ → Option ℤ → Option ℤ → Co
 four a b d e = if_given a (λ x. if_given b (λ y. if_given d (λ z. if_given e (λ u. Completed.peer x y z u))))
 
 -- a time that is given is held
-pub record IsHeld (a : Option ℤ) (m : MaybeTime) : Type 0 where
+pub record IsHeld (a : Option ℤ) (m : Option Time) : Type 0 where
   pub value : Time
-  pub held_is : m ≡ MaybeTime.Some value
-  pub given_is : a ≡ some (time value)
+  pub held_is : m ≡ Some value
+  pub given_is : a ≡ Some (time value)
 
 pub record FourThere (a : Times) (v : Bag) : Type 0 where
   pub t1 : Time
   pub t2 : Time
   pub t3 : Time
   pub t4 : Time
-  pub t1_is : v.send ≡ MaybeTime.Some t1
-  pub t2_is : v.request_receive ≡ MaybeTime.Some t2
-  pub t3_is : v.response_send ≡ MaybeTime.Some t3
-  pub t4_is : v.receive ≡ MaybeTime.Some t4
+  pub t1_is : v.send ≡ Some t1
+  pub t2_is : v.request_receive ≡ Some t2
+  pub t3_is : v.response_send ≡ Some t3
+  pub t4_is : v.receive ≡ Some t4
   pub worth : request_of Mechanism.Peer a ≡ Completed.peer (time t1) (time t2) (time t3) (time t4)

@@ -1,8 +1,8 @@
 -- Demand 3, as it is said: exchanges do not disturb each other. A port that is Slave, none of its exchanges half open, is fed whole exchanges, those of one kind one after another and the kinds mixed freely, with filter answers and foreign traffic anywhere. What is promised of its run is `Undisturbed`; that it holds is `undisturbed` in `UndisturbedLaws`.
-use Rattle.std.specs.Prelude.{ℕ, ◌≡◌, Bool, true, false, List, [], ◌∷◌, length, take}
+use Rattle.std.specs.Prelude.{ℕ, ◌≡◌, Bool, true, false, List, [], ◌∷◌, length, take, Option, Some, None}
 use Rattle.record.specs.Ids.{id_after}
-use Rattle.rules.specs.Names.{Exchange, SlaveState, PortState, PeerState, Mechanism, Ids, Config, Port, Outcome, Measurement, MaybeMeasurement, Action, Identity}
-use Rattle.rules.specs.Events.{Event, Result, buffer_after}
+use Rattle.rules.specs.Names.{Exchange, SlaveState, PortState, PeerState, Mechanism, Ids, Config, Port, Outcome, Measurement, Action, Identity}
+use Rattle.rules.specs.Events.{Event, Answered, buffer_after}
 use Rattle.rules.specs.Step.{step}
 use Rattle.rules.specs.WorkedOut.{Completed, unfinished}
 use Rattle.rules.specs.Formulas.{Says}
@@ -19,24 +19,24 @@ Standing = Port × List ℕ
 -- what an event is answered: its packet is the first bytes of the buffer, as many as are sent
 pub record Reply : Type 0 where
   pub outcome : Outcome
-  pub measurement : MaybeMeasurement
+  pub measurement : Option Measurement
   pub packet : List ℕ
   pub actions : List Action
   pub reset : Bool
 
-abbrev pub reply_with : Result → List ℕ → Reply
+abbrev pub reply_with : Answered → List ℕ → Reply
 reply_with r buffer =
     record { outcome = r.outcome; measurement = r.measurement; packet = take (length r.sent) buffer; actions = r.actions; reset = r.reset }
 
 unfoldable pub happens : Standing → Event → Standing × Reply
 happens s e =
-    let r : Result = step s.0 (length s.1) e in
+    let r : Answered = step s.0 (length s.1) e in
     let left : List ℕ = buffer_after r s.1 in
     ((r.port, left), reply_with r left)
 
-abbrev pub listed : MaybeMeasurement → List Measurement
-listed MaybeMeasurement.None = []
-listed (MaybeMeasurement.Some m) = m ∷ []
+abbrev pub listed : Option Measurement → List Measurement
+listed None = []
+listed (Some m) = m ∷ []
 
 abbrev pub measured_in : Reply → List Measurement
 measured_in a = listed a.measurement

@@ -1,9 +1,9 @@
 -- Document 01, end of 'The measurement': what a whole exchange is, and what foreign traffic is; by the fields on the wire, the contexts of stamps, and ids. How bytes are read is `reading`'s.
-use Rattle.std.specs.Prelude.{ℕ, ◌≡◌, Bool, true, false, ◌||◌, List, [], ◌∷◌}
+use Rattle.std.specs.Prelude.{ℕ, ◌≡◌, Bool, true, false, ◌||◌, List, [], ◌∷◌, Ok}
 use Rattle.time.specs.declared.WireTimestamp.{WireTimestamp}
 use Rattle.wire.specs.Layout.{two_step}
 use Rattle.record.specs.Ids.{id_after}
-use Rattle.rules.specs.Names.{Time, Identity, Header, Body, Reading, Mechanism, Config, Context, FilterUpdate}
+use Rattle.rules.specs.Names.{Time, Identity, Header, Body, Mechanism, Config, Context, FilterUpdate, Received}
 use Rattle.rules.specs.Events.{Event, event, stamp, delay_timer, filter_answer, reading, Brings}
 use Rattle.rules.specs.Table.{row3, row4, row5, row6, row8}
 use Rattle.undisturbed.specs.Runs.{Lane, syncs, requests, new, in_full, a_part, the_last, within, Item, placed}
@@ -53,7 +53,7 @@ pub record FromResponder (us responder : Identity) (id : ℕ) (h : Header) (requ
 module _ (c : Config) (master : Identity) where
   -- the Sync comes by the event entry, its FollowUp by either
   pub data OfSync (id : ℕ) (two : Bool) : Piece → Event → Type 0 where
-    a_sync : (t : Time) (message : List ℕ) (h : Header) (w : WireTimestamp) (u : Time) → reading c message ≡ Reading.Message h (Body.Sync w) u → FromMaster master id h → two_step h ≡ two → OfSync id two the_sync (event t message)
+    a_sync : (t : Time) (message : List ℕ) (h : Header) (w : WireTimestamp) (u : Time) → reading c message ≡ Ok (Received.Message h (Body.Sync w) u) → FromMaster master id h → two_step h ≡ two → OfSync id two the_sync (event t message)
     a_follow_up : (e : Event) (h : Header) (w : WireTimestamp) (u : Time) → Brings c e h (Body.FollowUp w) u → FromMaster master id h → OfSync id two the_follow_up e
 
   -- the stamp at which the request left, and our master's DelayResp to us
@@ -64,7 +64,7 @@ module _ (c : Config) (master : Identity) where
   -- the PDelayResp comes by the event entry, its follow-up by either
   pub data OfPeer (id : ℕ) (responder : Identity) (two : Bool) : Piece → Event → Type 0 where
     a_peer_stamp : (t : Time) → OfPeer id responder two the_stamp (stamp t (Context.PDelayReq id))
-    a_p_delay_resp : (t : Time) (message : List ℕ) (h : Header) (w : WireTimestamp) (requester : Identity) (u : Time) → reading c message ≡ Reading.Message h (Body.PDelayResp w requester) u → FromResponder c.identity responder id h requester → two_step h ≡ two → OfPeer id responder two the_p_delay_resp (event t message)
+    a_p_delay_resp : (t : Time) (message : List ℕ) (h : Header) (w : WireTimestamp) (requester : Identity) (u : Time) → reading c message ≡ Ok (Received.Message h (Body.PDelayResp w requester) u) → FromResponder c.identity responder id h requester → two_step h ≡ two → OfPeer id responder two the_p_delay_resp (event t message)
     a_p_delay_resp_follow_up : (e : Event) (h : Header) (w : WireTimestamp) (requester : Identity) (u : Time) → Brings c e h (Body.PDelayRespFollowUp w requester) u → FromResponder c.identity responder id h requester → OfPeer id responder two the_p_delay_resp_follow_up e
 
   -- ---- whole exchanges

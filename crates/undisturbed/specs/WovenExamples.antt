@@ -1,10 +1,10 @@
 -- What the laws of proofs/WovenExamples.antt speak of.
-use Rattle.std.specs.Prelude.{ℕ, ◌^◌, ◌*◌, Bool, true, ◌&&◌, List, [], ◌∷◌, replicate}
+use Rattle.std.specs.Prelude.{ℕ, ◌^◌, ◌*◌, Bool, true, ◌&&◌, List, [], ◌∷◌, replicate, Some, None}
 use Rattle.octets.specs.Bytes.{bytes_of}
 use Rattle.wire.specs.Layout.{header_entries, message_bytes, two_step_flag}
 use Rattle.wire.specs.declared.MessageType.TheVariants as M
 use Rattle.sent.specs.Messages.{header_for, no_flag, no_interval}
-use Rattle.rules.specs.Names.{Identity, Body, Port, MaybeDuration, MaybeNanoseconds, Context, Outcome}
+use Rattle.rules.specs.Names.{Identity, Body, Port, Context, Outcome}
 use Rattle.rules.specs.Events.{Event, event, general, stamp, sync_timer, delay_timer, filter_answer, set_state}
 use Rattle.undisturbed.specs.Runs.{syncs, requests, new, in_full, a_part, the_last, from_filter, foreign, within, free, Item, placed}
 use Rattle.undisturbed.specs.Undisturbed.{Reply}
@@ -108,7 +108,7 @@ response0 = delay_resp_to us 0 2450
 -- the filter gives a mean delay of 30 ns
 abbrev pub mean_of30 : Event
 mean_of30 =
-    filter_answer (record { mean_delay = MaybeDuration.Some (lasting 30); next_update = MaybeNanoseconds.None })
+    filter_answer (record { mean_delay = Some (lasting 30); next_update = None })
 
 -- foreign traffic that is refused: one byte is answered 4; a Sync 8 of the master, but in another domain, 6; an Announce, 8
 abbrev pub one_byte : Event

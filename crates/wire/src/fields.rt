@@ -6,6 +6,7 @@ ghost use Rattle.wire.specs.Layout.{timestamp_at, identity_at, timestamp_entries
 use crate::Identity;
 use time::WireTimestamp;
 
+// Stay two pairs, one for each type: a trait with two impls would be longer, and each is called by its type.
 pub fn get_timestamp(s: &[u8], at: usize) -> WireTimestamp
     requires { at + 10 ≤ length s.now }
     ensures { result ≡ timestamp_at at s.now }
@@ -26,12 +27,13 @@ pub fn get_identity(s: &[u8], at: usize) -> Identity
     }
 }
 
+#[tactic(auto, unfolding(crate::specs::Layout::timestamp_entries, octets::specs::Bytes::puts))]
 pub fn put_timestamp(buf: &mut [u8], at: usize, w: WireTimestamp)
     requires { at + 10 ≤ length buf.old }
     ensures { buf.new ≡ puts (timestamp_entries at w) buf.old }
 {
     octets::put(buf, at, 6, w.seconds);
-    octets::put(buf, at + 6, 4, w.nanos as u64);
+    octets::put(buf, at + 6, 4, u64::from(w.nanos));
 }
 
 pub fn put_identity(buf: &mut [u8], at: usize, who: Identity)

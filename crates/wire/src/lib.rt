@@ -8,7 +8,7 @@ mod types;
 use time::WireTimestamp;
 
 // A port identity: the clock's eight bytes as a number, and the port's number.
-#[derive(Clone, Copy)]
+#[derive(Clone, Copy, Debug, PartialEq, Eq)]
 pub struct Identity {
     pub clock: u64,
     pub port: u16,

@@ -5,11 +5,12 @@ ghost use Rattle.wire.specs.Layout.{Row, row, sdo_id, two_step, kind_of, type_of
 use crate::{Body, Header, Kind, MessageType, Rest};
 use time::WireTimestamp;
 
-impl Kind {
-    // What a type number stands for.
-    pub fn of(number: u8) -> Kind
-        ensures { result ≡ kind_of number }
-    {
+// What a type number stands for.
+impl From<u8> for Kind {
+    ghost from_gives = { λ number kind. kind ≡ kind_of number };
+
+    #[tactic(auto, unfolding(crate::specs::Layout::kind_of))]
+    fn from(number: u8) -> Kind {
         match number {
             0 => Kind::Table(MessageType::Sync),
             1 => Kind::Table(MessageType::DelayReq),
@@ -28,11 +29,12 @@ impl Kind {
 
 impl Header {
     // The sdo id that the two fields make up.
+    #[tactic(auto, unfolding(crate::specs::Layout::sdo_id))]
     pub fn sdo_id(self) -> u16
         ensures { result ≡ sdo_id self }
     {
-        let high = self.major_sdo as u16;
-        let low = self.minor_sdo as u16;
+        let high = u16::from(self.major_sdo);
+        let low = u16::from(self.minor_sdo);
         high * 256 + low
     }
 

@@ -1,5 +1,5 @@
 -- Worked examples, each computed: every message as bytes, the other way round too, and the edges of rows 4 and 5. No two fields hold the same, but for what the table fixes.
-use Rattle.std.specs.Prelude.{ℕ, ◌≡◌, refl, List, [], ◌∷◌, ◌++◌, take}
+use Rattle.std.specs.Prelude.{ℕ, ◌≡◌, refl, List, [], ◌∷◌, ◌++◌, take, Ok, Err}
 use Rattle.time.specs.declared.Time.{Time}
 use Rattle.time.specs.declared.WireTimestamp.{WireTimestamp}
 use Rattle.time.specs.Units.{time_of_wire, wire}
@@ -7,12 +7,13 @@ use Rattle.wire.specs.declared.Identity.{Identity}
 use Rattle.wire.specs.declared.Header.{Header}
 use Rattle.wire.specs.declared.Body.{Body}
 use Rattle.wire.specs.declared.Body.TheVariants as B
-use Rattle.reading.specs.declared.Reading.TheVariants as G
-use Rattle.writing.specs.declared.Written.TheVariants as W
 use Rattle.octets.specs.Bytes.{number, spell, bytes_of, roomy}
 use Rattle.wire.specs.Layout.{header_entries, header_of, identity_entries, identity_at, timestamp_entries, timestamp_at, body_entries, body_of, kind_of, message_entries, message_bytes}
 use Rattle.reading.specs.Reading.{row4, row5, message_of, read_of}
 use Rattle.writing.specs.Writing.{together, fits_of, write_of}
+use Rattle.reading.specs.declared.Received.{Received}
+use Rattle.reading.specs.declared.ReadError.{ReadError}
+use Rattle.writing.specs.declared.WriteError.{WriteError}
 
 -- ---- the parts
 
@@ -66,7 +67,7 @@ ten x = x ∷ x ∷ x ∷ x ∷ x ∷ x ∷ x ∷ x ∷ x ∷ x ∷ []
 -- ---- each message, read and written
 
 abbrev Are : List ℕ → Header → Body → Type 0
-Are l h b = (read_of l ≡ G.Message h b stamp_time) × (message_bytes h b ≡ l)
+Are l h b = (read_of l ≡ Ok (Received.Message h b stamp_time)) × (message_bytes h b ≡ l)
 
 sync : Are (head 0xA0 0x72 44 0x00 0x00 ++ stamp_bytes) (says 0 44) (B.Sync stamp)
 unfolding read_of row4 row5 message_of number header_of identity_at timestamp_at body_of kind_of time_of_wire wire message_bytes message_entries header_entries identity_entries timestamp_entries body_entries bytes_of spell
@@ -98,79 +99,79 @@ pdelay_resp_follow_up = (refl, refl)
 
 -- ---- what is not read: reserved bytes, control, and what lies behind
 
-reserved_unread : read_of (head 0xA2 0x72 54 0xFE 0xFD ++ stamp_bytes ++ ten 0xFF) ≡ G.Message (says 2 54) (B.PDelayReq stamp) stamp_time
+reserved_unread : read_of (head 0xA2 0x72 54 0xFE 0xFD ++ stamp_bytes ++ ten 0xFF) ≡ Ok (Received.Message (says 2 54) (B.PDelayReq stamp) stamp_time)
 unfolding read_of row4 row5 message_of number header_of identity_at timestamp_at body_of kind_of time_of_wire wire
 reserved_unread = refl
 
-behind_unread : read_of (head 0xA0 0x72 44 0x00 0x00 ++ stamp_bytes ++ ten 0xFF) ≡ G.Message (says 0 44) (B.Sync stamp) stamp_time
+behind_unread : read_of (head 0xA0 0x72 44 0x00 0x00 ++ stamp_bytes ++ ten 0xFF) ≡ Ok (Received.Message (says 0 44) (B.Sync stamp) stamp_time)
 unfolding read_of row4 row5 message_of number header_of identity_at timestamp_at body_of kind_of time_of_wire wire
 behind_unread = refl
 
 -- a stated length above the table's is read, and is not written
-long_read : read_of (head 0xA0 0x72 54 0x00 0x00 ++ stamp_bytes ++ ten 0xFF) ≡ G.Message (says 0 54) (B.Sync stamp) stamp_time
+long_read : read_of (head 0xA0 0x72 54 0x00 0x00 ++ stamp_bytes ++ ten 0xFF) ≡ Ok (Received.Message (says 0 54) (B.Sync stamp) stamp_time)
 unfolding read_of row4 row5 message_of number header_of identity_at timestamp_at body_of kind_of time_of_wire wire
 long_read = refl
 
-long_unfit : write_of (says 0 54) (B.Sync stamp) 54 ≡ W.Unfit
+long_unfit : write_of (says 0 54) (B.Sync stamp) 54 ≡ Err WriteError.Unfit
 unfolding write_of fits_of together
 long_unfit = refl
 
 -- ---- the host's: an Announce, of which the header is read
 
-announce : read_of (head 0xAB 0x72 64 0x00 0x05 ++ stamp_bytes ++ ten 0x00 ++ ten 0xFF) ≡ G.Host (says 11 64)
+announce : read_of (head 0xAB 0x72 64 0x00 0x05 ++ stamp_bytes ++ ten 0x00 ++ ten 0xFF) ≡ Ok (Received.Host (says 11 64))
 unfolding read_of row4 row5 message_of number header_of identity_at timestamp_at body_of kind_of time_of_wire wire
 announce = refl
 
 -- ---- row 4: the second byte must be there and end in 2
 
-one_byte : read_of (0xA0 ∷ []) ≡ G.Version
+one_byte : read_of (0xA0 ∷ []) ≡ Err ReadError.Version
 unfolding read_of row4 row5 message_of number header_of identity_at timestamp_at body_of kind_of time_of_wire wire
 one_byte = refl
 
-two_bytes : read_of (0xA0 ∷ 0x72 ∷ []) ≡ G.Malformed
+two_bytes : read_of (0xA0 ∷ 0x72 ∷ []) ≡ Err ReadError.Malformed
 unfolding read_of row4 row5 message_of number header_of identity_at timestamp_at body_of kind_of time_of_wire wire
 two_bytes = refl
 
-version_1 : read_of (head 0xA0 0x21 44 0x00 0x00 ++ stamp_bytes) ≡ G.Version
+version_1 : read_of (head 0xA0 0x21 44 0x00 0x00 ++ stamp_bytes) ≡ Err ReadError.Version
 unfolding read_of row4 row5 message_of number header_of identity_at timestamp_at body_of kind_of time_of_wire wire
 version_1 = refl
 
 -- ---- row 5, each condition at its edge
 
-cut_header : read_of (take 33 (head 0xAB 0x72 34 0x00 0x05)) ≡ G.Malformed
+cut_header : read_of (take 33 (head 0xAB 0x72 34 0x00 0x05)) ≡ Err ReadError.Malformed
 unfolding read_of row4 row5 message_of number header_of identity_at timestamp_at body_of kind_of time_of_wire wire
 cut_header = refl
 
-just_a_header : read_of (head 0xAB 0x72 34 0x00 0x05) ≡ G.Host (says 11 34)
+just_a_header : read_of (head 0xAB 0x72 34 0x00 0x05) ≡ Ok (Received.Host (says 11 34))
 unfolding read_of row4 row5 message_of number header_of identity_at timestamp_at body_of kind_of time_of_wire wire
 just_a_header = refl
 
-stated_33 : read_of (head 0xAB 0x72 33 0x00 0x05) ≡ G.Malformed
+stated_33 : read_of (head 0xAB 0x72 33 0x00 0x05) ≡ Err ReadError.Malformed
 unfolding read_of row4 row5 message_of number header_of identity_at timestamp_at body_of kind_of time_of_wire wire
 stated_33 = refl
 
-stated_above : read_of (head 0xA0 0x72 45 0x00 0x00 ++ stamp_bytes) ≡ G.Malformed
+stated_above : read_of (head 0xA0 0x72 45 0x00 0x00 ++ stamp_bytes) ≡ Err ReadError.Malformed
 unfolding read_of row4 row5 message_of number header_of identity_at timestamp_at body_of kind_of time_of_wire wire
 stated_above = refl
 
-type_14 : read_of (head 0xAE 0x72 44 0x00 0x00 ++ stamp_bytes) ≡ G.Malformed
+type_14 : read_of (head 0xAE 0x72 44 0x00 0x00 ++ stamp_bytes) ≡ Err ReadError.Malformed
 unfolding read_of row4 row5 message_of number header_of identity_at timestamp_at body_of kind_of time_of_wire wire
 type_14 = refl
 
-follow_up_43 : read_of (head 0xA8 0x72 43 0x00 0x02 ++ stamp_bytes) ≡ G.Malformed
+follow_up_43 : read_of (head 0xA8 0x72 43 0x00 0x02 ++ stamp_bytes) ≡ Err ReadError.Malformed
 unfolding read_of row4 row5 message_of number header_of identity_at timestamp_at body_of kind_of time_of_wire wire
 follow_up_43 = refl
 
 -- ---- writing: the room, and a type that is not the body's
 
-room_43 : write_of (says 8 44) (B.FollowUp stamp) 43 ≡ W.Short
+room_43 : write_of (says 8 44) (B.FollowUp stamp) 43 ≡ Err WriteError.Short
 unfolding write_of fits_of together roomy message_entries header_entries identity_entries timestamp_entries body_entries time_of_wire wire
 room_43 = refl
 
-room_44 : write_of (says 8 44) (B.FollowUp stamp) 44 ≡ W.Length 44
+room_44 : write_of (says 8 44) (B.FollowUp stamp) 44 ≡ Ok 44
 unfolding write_of fits_of together roomy message_entries header_entries identity_entries timestamp_entries body_entries time_of_wire wire
 room_44 = refl
 
-other_type : write_of (says 0 44) (B.FollowUp stamp) 44 ≡ W.Unfit
+other_type : write_of (says 0 44) (B.FollowUp stamp) 44 ≡ Err WriteError.Unfit
 unfolding write_of fits_of together
 other_type = refl

@@ -1,5 +1,5 @@
 -- What is written reads back as it was, and what was read and is written again has the same bytes wherever it is read.
-use Rattle.std.specs.Prelude.{ℕ, ◌+◌, ◌-◌, ◌*◌, ◌/◌, ◌%◌, ◌^◌, ◌≤◌, ◌<◌, ◌≡◌, refl, true, length, get_or, take, drop, eqb}
+use Rattle.std.specs.Prelude.{ℕ, ◌+◌, ◌-◌, ◌*◌, ◌/◌, ◌%◌, ◌^◌, ◌≤◌, ◌<◌, ◌≡◌, refl, true, length, get_or, take, drop, eqb, Ok}
 use Rattle.std.proofs.Common.{sym, ◌∙◌, subst, zero-add, arith, length-append, length-drop, get_or-take, get_or-drop, get_or-append-add, take_at, drop_at, lit<}
 use Rattle.std.proofs.Math.Path.{ap}
 use Rattle.std.proofs.Math.Bool.{false}
@@ -8,7 +8,6 @@ use Rattle.std.proofs.Math.Decide.{dec_lt}
 use Rattle.std.proofs.Math.ListN.{get_or-append}
 use borrow.Author.Tests.{le-ltb, eqb-true}
 use Rattle.time.specs.declared.Time.{Time}
-use Rattle.time.specs.declared.ReadAnswer.TheVariants as R
 use Rattle.time.specs.Units.{time_of_wire, time_words, wire}
 use Rattle.wire.specs.declared.MessageType.{MessageType}
 use Rattle.wire.specs.declared.MessageType.TheVariants as M
@@ -18,8 +17,6 @@ use Rattle.wire.specs.declared.Identity.{Identity}
 use Rattle.wire.specs.declared.Header.{Header}
 use Rattle.wire.specs.declared.Body.{Body}
 use Rattle.wire.specs.declared.Body.TheVariants as B
-use Rattle.reading.specs.declared.Reading.TheVariants as G
-use Rattle.writing.specs.declared.Written.TheVariants as W
 use Rattle.octets.specs.Bytes.{Entry, number, spell, bytes_of, size_of, tiles, field_at, Bytes}
 use Rattle.wire.specs.Layout.{header_entries, header_of, timestamp_entries, timestamp_at, identity_entries, identity_at, body_entries, body_of, body, row, kind_of, type_of, timestamp_of, message_length, message_entries, message_bytes}
 use Rattle.reading.specs.Unread.{unread, unread_at}
@@ -31,6 +28,7 @@ use Rattle.wire.proofs.LayoutLaws.{message_tiles, length_message, number_kind, r
 use Rattle.reading.specs.ReadingLaws.{row4_passed, row5_passed, IsMessage, message_when, message_is}
 use Rattle.writing.specs.WritingLaws.{Fitting, fits_is, fits_when, write_when, write_is, left_when, time_given}
 use Rattle.reading.proofs.UnreadLaws.{read_at_is}
+use Rattle.reading.specs.declared.Received.{Received}
 
 -- ---- tables that stand in l read back
 
@@ -90,10 +88,10 @@ module _ (h : Header) (b : Body) (f : Fitting h b) (q : List ℕ) where
   there : (row (type_of b)).length ≤ length whole
   there = omega (arith, length-append (message_bytes h b) q, length_message h b)
 
-  has_time : time_of_wire (timestamp_of b) ≡ R.Value (time_words (wire (timestamp_of b)))
+  has_time : time_of_wire (timestamp_of b) ≡ Ok (time_words (wire (timestamp_of b)))
   has_time = time_given (timestamp_of b) f.timed
 
-  pub message_back : read_of whole ≡ G.Message h b (time_words (wire (timestamp_of b)))
+  pub message_back : read_of whole ≡ Ok (Received.Message h b (time_words (wire (timestamp_of b))))
   unfolding header_of
   message_back =
       let t : Time = time_words (wire (timestamp_of b)) in
@@ -107,7 +105,7 @@ module _ (h : Header) (b : Body) (f : Fitting h b) (q : List ℕ) where
         body_stated = ap (λ (k : Kind). short_for k (field_at message_length whole)) kind_back ∙ le-ltb (field_at message_length whole) (row (type_of b)).length (omega (arith, stated));
       } in
       message_when whole (type_of b) t a c kind_back (ap time_of_wire (stamp_reads b whole stands.1) ∙ has_time)
-      ∙ (λ j. G.Message (header_back j) (body_reads b whole stands.1 j) t)
+      ∙ (λ j. Ok (Received.Message (header_back j) (body_reads b whole stands.1 j) t))
 
 -- ---- written, then read
 
@@ -119,11 +117,11 @@ pub record Wrote (h : Header) (b : Body) (l : List ℕ) (n : ℕ) : Type 0 where
   pub front : take n (left_of h b l) ≡ message_bytes h b
   pub behind : drop n (left_of h b l) ≡ drop n l
   pub time : Time
-  pub time_is : time_of_wire (timestamp_of b) ≡ R.Value time
-  pub reads_all : read_of (left_of h b l) ≡ G.Message h b time
-  pub reads_front : read_of (message_bytes h b) ≡ G.Message h b time
+  pub time_is : time_of_wire (timestamp_of b) ≡ Ok time
+  pub reads_all : read_of (left_of h b l) ≡ Ok (Received.Message h b time)
+  pub reads_front : read_of (message_bytes h b) ≡ Ok (Received.Message h b time)
 
-pub written_reads : (h : Header) (b : Body) (l : List ℕ) (n : ℕ) → write_of h b (length l) ≡ W.Length n → Wrote h b l n
+pub written_reads : (h : Header) (b : Body) (l : List ℕ) (n : ℕ) → write_of h b (length l) ≡ Ok n → Wrote h b l n
 written_reads h b l n e =
     let (fit, enough, same) = write_is h b (length l) n e in
     let f : Fitting h b = fits_is h b fit in
@@ -225,11 +223,11 @@ body_origins M.PDelayRespFollowUp l = (copied refl, (copied refl, (copied refl, 
 -- what was read can be written, and has the bytes that were read wherever they are read; those are all below its length
 pub record Rewrites (l : List ℕ) (h : Header) (b : Body) : Type 0 where
   pub fits : fits_of h b ≡ true
-  pub writes : (room : ℕ) → (row (type_of b)).length ≤ room → write_of h b room ≡ W.Length (row (type_of b)).length
+  pub writes : (room : ℕ) → (row (type_of b)).length ≤ room → write_of h b room ≡ Ok (row (type_of b)).length
   pub same : (i : ℕ) → unread_at (K.Table (type_of b)) i ≡ false → get_or (message_bytes h b) i 0 ≡ get_or l i 0
 
 -- a stated length above the table's own is read and cannot be written, hence the last hypothesis
-pub read_writes : (l : List ℕ) (h : Header) (b : Body) (t : Time) → Bytes l → read_of l ≡ G.Message h b t → h.length ≡ (row (type_of b)).length → Rewrites l h b
+pub read_writes : (l : List ℕ) (h : Header) (b : Body) (t : Time) → Bytes l → read_of l ≡ Ok (Received.Message h b t) → h.length ≡ (row (type_of b)).length → Rewrites l h b
 unfolding header_of message_bytes message_entries
 read_writes l h b t bytes e n =
     let m : IsMessage l h b t = message_is l h b t e in

@@ -1,13 +1,10 @@
 -- Laws of writing, for callers: what fits, and when a message is written.
-use Rattle.std.specs.Prelude.{ℕ, ◌≤◌, ◌<◌, ◌^◌, ◌≡◌, refl, Bool, true, false, cond, ◌&&◌, List, [], ◌∷◌, ◌++◌, ltb, eqb, pos, length, drop}
+use Rattle.std.specs.Prelude.{ℕ, ◌≤◌, ◌<◌, ◌^◌, ◌≡◌, refl, Bool, true, false, cond, ◌&&◌, List, [], ◌∷◌, ◌++◌, ltb, eqb, pos, length, drop, Result, Ok, Err}
 use Rattle.std.proofs.Common.{ap, sym, ◌∙◌, ltb-true, ltb-false, lt-ltb, le-ltb, eqb-true, eq-eqb}
 use Rattle.std.proofs.lemmas.Bool.{false≢true}
 use Rattle.wire.specs.declared.Header.{Header}
 use Rattle.wire.specs.declared.Body.{Body}
-use Rattle.time.specs.declared.ReadAnswer.TheVariants as R
 use Rattle.time.specs.Numbers.{answered, refusal}
-use Rattle.writing.specs.declared.Written.{Written}
-use Rattle.writing.specs.declared.Written.TheVariants as W
 use Rattle.octets.specs.Bytes.{roomy}
 use Rattle.wire.specs.Layout.{row, type_of, message_entries, message_bytes, timestamp_of}
 use Rattle.writing.specs.Writing.{together, fits_of, write_of, left_by, left_of, is_time}
@@ -19,6 +16,7 @@ use Rattle.time.specs.Units.{time_of_wire, time_words, wire}
 use Rattle.time.specs.WireLaws.{read_in, read_out}
 use Rattle.time.specs.Lemmas.Integers.{not_below}
 use Rattle.time.specs.declared.WireTimestamp.{WireTimestamp}
+use Rattle.writing.specs.declared.WriteError.{WriteError}
 
 -- `fits_of` as facts
 pub record Fitting (h : Header) (b : Body) : Type 0 where
@@ -66,32 +64,32 @@ seconds_given w e = go (dec_lt w.seconds (2 ^ 48))
     go (yes h) = h
     go (no h) = absurd (false≢true (sym (ap is_time (read_out w (not_below w.seconds (2 ^ 48) h))) ∙ e))
 
-pub time_given : (w : WireTimestamp) → is_time (time_of_wire w) ≡ true → time_of_wire w ≡ R.Value (time_words (wire w))
+pub time_given : (w : WireTimestamp) → is_time (time_of_wire w) ≡ true → time_of_wire w ≡ Ok (time_words (wire w))
 time_given w e = read_in w (seconds_given w e)
 
 -- written exactly where it fits and the room is enough
-pub write_when : (h : Header) (b : Body) (room : ℕ) → fits_of h b ≡ true → (row (type_of b)).length ≤ room → write_of h b room ≡ W.Length (row (type_of b)).length
+pub write_when : (h : Header) (b : Body) (room : ℕ) → fits_of h b ≡ true → (row (type_of b)).length ≤ room → write_of h b room ≡ Ok (row (type_of b)).length
 unfolding write_of
 write_when h b room f r = simp (f, le-ltb room (row (type_of b)).length r)
 
-picked : (fit short : Bool) (k n : ℕ) → cond fit (cond short W.Short (W.Length k)) W.Unfit ≡ W.Length n → (fit ≡ true) × (short ≡ false) × (n ≡ k)
+picked : (fit short : Bool) (k n : ℕ) → cond fit (cond short (Err WriteError.Short) (Ok k)) (Err WriteError.Unfit) ≡ Ok n → (fit ≡ true) × (short ≡ false) × (n ≡ k)
 picked true true k n e = absurd (apart cc)
 picked true false k n e = (refl, refl, cc)
 picked false short k n e = absurd (apart cc)
 
-pub write_is : (h : Header) (b : Body) (room n : ℕ) → write_of h b room ≡ W.Length n → (fits_of h b ≡ true) × ((row (type_of b)).length ≤ room) × (n ≡ (row (type_of b)).length)
+pub write_is : (h : Header) (b : Body) (room n : ℕ) → write_of h b room ≡ Ok n → (fits_of h b ≡ true) × ((row (type_of b)).length ≤ room) × (n ≡ (row (type_of b)).length)
 unfolding write_of
 write_is h b room n e =
     let (fit, short, same) = picked (fits_of h b) (ltb room (row (type_of b)).length) (row (type_of b)).length n e in
     (fit, ltb-false room (row (type_of b)).length short, same)
 
 -- what is left of the buffer then
-pub left_when : (h : Header) (b : Body) (l : List ℕ) (n : ℕ) → write_of h b (length l) ≡ W.Length n → left_of h b l ≡ message_bytes h b ++ drop n l
+pub left_when : (h : Header) (b : Body) (l : List ℕ) (n : ℕ) → write_of h b (length l) ≡ Ok n → left_of h b l ≡ message_bytes h b ++ drop n l
 unfolding left_of
-left_when h b l n e = ap (λ (w : Written). left_by w (message_bytes h b) l) e
+left_when h b l n e = ap (λ (w : Result ℕ WriteError). left_by w (message_bytes h b) l) e
 
 -- and in 01's terms, for all inputs
-told_picked : (fit short : Bool) (n : ℕ) → told (cond fit (cond short W.Short (W.Length n)) W.Unfit) ≡ cond fit (cond short (refusal 1) (answered (pos n ∷ []))) (refusal 7)
+told_picked : (fit short : Bool) (n : ℕ) → told (cond fit (cond short (Err WriteError.Short) (Ok n)) (Err WriteError.Unfit)) ≡ cond fit (cond short (refusal 1) (answered (pos n ∷ []))) (refusal 7)
 told_picked true true n = refl
 told_picked true false n = refl
 told_picked false short n = refl

@@ -11,8 +11,7 @@ pub(crate) fn write_body(part: &mut [u8], b: Body)
     ensures { part.new ≡ puts (body_entries 0 b) part.old }
 {
     fields::put_timestamp(part, 0, b.timestamp());
-    let rest = b.rest();
-    match rest {
+    match b.rest() {
         Rest::Nothing => {}
         Rest::Reserved => octets::put(part, 10, 10, 0),
         Rest::Requester(who) => fields::put_identity(part, 10, who),

@@ -5,18 +5,15 @@ ghost use Rattle.octets.specs.Bytes.{roomy};
 ghost use Rattle.wire.specs.Layout.{body, timestamp_entries, identity_entries, body_entries, timestamp_of};
 ghost use Rattle.writing.specs.Writing.{is_time, fits_of};
 
-use time::{ReadAnswer, Time, WireTimestamp};
+use time::{Time, WireTimestamp};
 use wire::{Body, Header, Identity};
 
 // Whether each number of a timestamp has room in its place, and it reads as a time.
+#[tactic(auto, using(crate::specs::WritingLaws::seconds_given), unfolding(octets::specs::Bytes::roomy, wire::specs::Layout::timestamp_entries))]
 fn stamp_fits(w: WireTimestamp) -> bool
     ensures { result ≡ (roomy (timestamp_entries body w) && is_time (time_of_wire w)) }
 {
-    let read = Time::of_wire(w);
-    match read {
-        ReadAnswer::Value(_) => true,
-        ReadAnswer::Seconds => false,
-    }
+    Time::of_wire(w).is_ok()
 }
 
 // The same with the requester's identity behind it.

@@ -13,6 +13,7 @@ fn halves(h: u8, l: u8) -> u8
     h * 16 + l
 }
 
+// Both bounds are what a fit header has, asked by three functions of this file alone: a type for them would be made in one place.
 // The first seven fields, to the end of the correction.
 fn write_front(packet: &mut [u8], h: Header, control: u8)
     requires { (34 ≤ length packet.old) × (h.major_sdo < 16) × (h.kind < 16) × (h.minor < 16) × (h.version < 16) }

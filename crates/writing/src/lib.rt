@@ -11,11 +11,10 @@ mod headers;
 
 use wire::{Body, Header};
 
-// What became of a message to be written: its length, or the buffer is too short for it, or header and
-// body do not go together or do not fit their places. Only the first writes anything.
-#[derive(Clone, Copy)]
-pub enum Written {
-    Length(usize),
+// Why a message isn't written: the buffer is too short for it, or header and body do not go together or do not fit
+// their places.
+#[derive(Clone, Copy, Debug, PartialEq, Eq)]
+pub enum WriteError {
     Short,
     Unfit,
 }
@@ -30,19 +29,20 @@ fn lay(packet: &mut [u8], header: Header, body: Body)
     bodies::write_body(&mut packet[34..], body);
 }
 
-// Writes a message at the front of a packet buffer; what lies behind it stays.
-pub fn write(packet: &mut [u8], header: Header, body: Body) -> Written
+// Writes a message at the front of a packet buffer, and answers its length; what lies behind it stays. What is refused
+// leaves the whole buffer as it was.
+#[tactic(auto, unfolding(crate::specs::Writing::write_of, crate::specs::Writing::left_of))]
+pub fn write(packet: &mut [u8], header: Header, body: Body) -> Result<usize, WriteError>
     ensures { (result ≡ write_of header body (length packet.old)) × (packet.new ≡ left_of header body packet.old) }
 {
-    if fits::fits(header, body) {
-        let t = body.message_type();
-        let n = octets::size(t.length());
-        if packet.len() < n {
-            return Written::Short;
-        }
-        lay(packet, header, body);
-        Written::Length(n)
-    } else {
-        Written::Unfit
+    if !fits::fits(header, body) {
+        return Err(WriteError::Unfit);
     }
+    let t = body.message_type();
+    let n = usize::from(t.length());
+    if packet.len() < n {
+        return Err(WriteError::Short);
+    }
+    lay(packet, header, body);
+    Ok(n)
 }

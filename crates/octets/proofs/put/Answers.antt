@@ -1,14 +1,11 @@
-use Rattle.std.proofs.Common.{◌≡◌, refl, ◌∙◌, arith, rules, length-set}
+use Rattle.std.proofs.Common.{◌≡◌, ◌∙◌, arith}
 use Rattle.octets.proofs.BytesLaws.{put_next, put_zero}
 use Rattle.octets.proofs.put.Goals as goal
-
-pub loop-i-init : goal.loop-i-init
-loop-i-init c = (refl, refl, search rules)
 
 pub loop-i-preserved : goal.loop-i-preserved
 loop-i-preserved c =
     let q = c.loop-i in
-    (put_next c.args.at q.i q.v q.buf (search rules) ∙ q.invariant.0, simp length-set q.invariant.1, search rules)
+    put_next c.args.at q.i q.v q.buf (omega arith) ∙ q.invariant
 
 pub returns : goal.returns
 returns c =

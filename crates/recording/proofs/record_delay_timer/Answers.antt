@@ -1,6 +1,7 @@
 use Rattle.std.proofs.Common.{refl, arith}
-use Rattle.octets.proofs.BytesLaws.{length-spell}
-use Rattle.recording.proofs.RecordingLaws.{appends, appends_short, length-delay_timer, length_draw, field_then}
+use Rattle.std.proofs.lemmas.Grind.{common_steps}
+use Rattle.recording.proofs.RecordingLaws.{appends_short, length-delay_timer, length_draw}
+use Rattle.recording.proofs.LayingLaws.{appends_typed, typed_field, length_spelled}
 use Rattle.recording.specs.Recording.{event_bytes}
 use Rattle.recording.proofs.record_delay_timer.Goals as goal
 
@@ -10,8 +11,5 @@ returns-then-out-lt14 c = appends_short _ _ 14 (length-delay_timer _) _ refl (om
 pub returns : goal.returns
 unfolding event_bytes
 returns c =
-    appends _ _ 14 (length-delay_timer _) _ refl
-    (omega (arith, c.if-out-lt14.false))
-    (field_then _ _ _ (length_draw _)
-    c.heading-a.ensures
-    (field_then _ _ _ (length-spell _ _) c.heading-b.ensures c.spell.ensures))
+    appends_typed _ _ _ _ c.long.new.page.at 14 refl (length-delay_timer _) (omega (arith, c.if-out-lt14.false))
+    (grind (arith, common_steps, typed_field, length_spelled, length_draw))

@@ -1,5 +1,7 @@
 use Rattle.std.proofs.Common.{arith}
-use Rattle.recording.proofs.RecordingLaws.{appends, appends_short, appends_unfit, short_message, long_message, length-general, length_field, field_then}
+use Rattle.std.proofs.lemmas.Grind.{common_steps}
+use Rattle.recording.proofs.RecordingLaws.{appends_short, appends_unfit, short_message, long_message, length-general, length_field}
+use Rattle.recording.proofs.LayingLaws.{appends_typed, typed_field}
 use Rattle.recording.specs.Recording.{event_bytes}
 use Rattle.recording.proofs.record_general.Goals as goal
 
@@ -12,7 +14,5 @@ returns-then-out-size c = appends_short _ _ _ (length-general _) _ (short_messag
 pub returns : goal.returns
 unfolding event_bytes
 returns c =
-    appends _ _ _ (length-general _) _
-    (short_message _ _ c.if-n-gt-LONGEST.false (omega arith))
-    (omega (arith, c.if-out-size.false))
-    (field_then _ _ _ (length_field _ _) c.heading-a.ensures c.message.ensures)
+    appends_typed _ _ _ _ c.message.new.page.at _ (short_message _ _ c.if-n-gt-LONGEST.false (omega arith)) (length-general _) (omega (arith, c.if-out-size.false))
+    (grind (arith, common_steps, typed_field, length_field))

@@ -1,22 +1,16 @@
-use Rattle.std.proofs.Common.{refl, sym, ◌∙◌, ap, ℕ, ◌+◌, arith}
-use Rattle.text.specs.PageLaws.{wrote_then}
-use Rattle.recording.proofs.RecordingLaws.{appends, appends_short, length-stamp, length_timed, field_then, context_small}
+use Rattle.std.proofs.Common.{◌+◌, refl, arith}
+use Rattle.std.proofs.lemmas.Grind.{common_steps}
+use Rattle.text.specs.PageLaws.{typed_append}
+use Rattle.recording.proofs.RecordingLaws.{appends_short, length-stamp, length_timed}
+use Rattle.recording.proofs.LayingLaws.{appends_typed, typed_field}
 use Rattle.recording.specs.Recording.{event_bytes}
 use Rattle.recording.proofs.record_stamp.Goals as goal
 
-pub overflow_add-size : goal.overflow_add-size
-overflow_add-size c = omega (arith, context_small _ c.context_size-n.ensures)
-
 pub returns-then-out-size : goal.returns-then-out-size
-returns-then-out-size c = appends_short _ _ _ (length-stamp _ _ ∙ ap (λ (k : ℕ). 25 + k) (sym c.context_size-n.ensures)) _ refl (omega (arith, c.if-out-size.true))
+returns-then-out-size c = appends_short _ _ (25 + c.context_size-n.result) (omega (arith, length-stamp c.args.timestamp c.args.context)) _ refl (omega (arith, c.if-out-size.true))
 
 pub returns : goal.returns
 unfolding event_bytes
 returns c =
-    let sized = sym c.context_size-n.ensures in
-    appends _ _ _ (length-stamp _ _ ∙ ap (λ (k : ℕ). 25 + k) sized) _ refl
-    (omega (arith, c.if-out-size.false))
-    (field_then _ _ _ (length_timed _ _ _ ∙ ap (λ (k : ℕ). 22 + k) sized)
-    c.heading-a.ensures
-    (wrote_then c.time-b.ensures
-    (field_then _ _ _ sized c.heading-c.ensures c.context.ensures)))
+    appends_typed _ _ _ _ c.context.new.page.at _ refl (omega (arith, length-stamp c.args.timestamp c.args.context)) (omega (arith, c.if-out-size.false))
+    (grind (arith, common_steps, typed_append, typed_field, length_timed))

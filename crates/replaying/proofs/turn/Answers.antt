@@ -1,43 +1,33 @@
-use Rattle.std.proofs.Common.{sym, refl, ◌∙◌, arith}
-use Rattle.replaying.proofs.TurnLaws.{going_start, going_place, going_read, going_same, going_on, one_ahead, going_stop, going_full, stop_leaves, full_leaves}
+use Rattle.std.proofs.Common.{refl, ◌∙◌, arith}
+use Rattle.replaying.proofs.TurnLaws.{going_start, under_place, under_read, under_on, under_ahead, under_stops, under_full}
 use Rattle.replaying.proofs.turn.Goals as goal
 
--- src/lib.rt:103:5
 pub loop-out-init : goal.loop-out-init
-loop-out-init c = (going_start _ _ _ _ _, refl)
+loop-out-init c = (record { same_style = refl; same_window = refl; same_last = refl; going = going_start _ _ _ _ _ }, refl)
 
--- src/lib.rt:103:11
 pub overflow_sub-out : goal.overflow_sub-out
-overflow_sub-out c = omega (arith, going_place _ _ _ _ _ _ _ _ _ c.loop-out.invariant.0)
+overflow_sub-out c = under_place _ _ _ _ _ _ _ c.loop-out.invariant.0
 
--- src/lib.rt:104:50
-pub slice_bounds-one-end : goal.slice_bounds-one-end
-slice_bounds-one-end c = sym c.loop-out.invariant.1
+pub step-requires-clause-read_in_bounds : goal.step-requires-clause-read_in_bounds
+step-requires-clause-read_in_bounds c = under_read _ _ _ _ _ _ _ c.loop-out.invariant.0
 
--- src/lib.rt:104:15
-pub one-requires : goal.one-requires
-one-requires c = record { i_in_bounds = omega (arith, going_read _ _ _ _ _ _ _ _ _ c.loop-out.invariant.0); packet_len = c.loop-out.invariant.1; to_in_bounds = omega (arith, c.loop-out-test.true) }
-
--- src/lib.rt:103:5
 pub loop-out-smaller : goal.loop-out-smaller
-loop-out-smaller c = omega (arith, one_ahead _ _ _ _ _ _ _ _ _ _ _ _ c.one.ensures c.in-On.is)
+loop-out-smaller c = omega (arith, under_ahead _ _ _ _ _ _ _ c.loop-out.invariant.0 _ _ (c.in_default.ensures))
 
--- src/lib.rt:103:5
 pub loop-out-preserved : goal.loop-out-preserved
-loop-out-preserved c = (going_on _ _ _ _ _ _ _ _ _ _ _ _ _ _ c.loop-out.invariant.0 c.one.ensures c.in-On.is (omega (arith, c.loop-out-test.true)), c.one.auto.packet ∙ c.loop-out.invariant.1)
+loop-out-preserved c =
+    (under_on _ _ _ _ _ _ _ c.loop-out.invariant.0 _ _ (c.in_default.ensures) (omega (arith, c.loop-out-test.true)), c.step.auto.packet ∙ c.loop-out.invariant.1)
 
--- src/lib.rt:111:17
-pub shape_of-out-in-Stops : goal.shape_of-out-in-Stops
-shape_of-out-in-Stops c = c.one.auto.out ∙ going_same _ _ _ _ _ _ _ _ _ c.loop-out.invariant.0
+pub returns-in-Some-clause-turned : goal.returns-in-Some-clause-turned
+returns-in-Some-clause-turned c =
+    (under_stops _ _ _ _ _ _ _ c.loop-out.invariant.0 _ _ _ _ (c.in-Some.ensures) (omega (arith, c.loop-out-test.true)) c.end.ensures).0
 
--- src/lib.rt:111:17
-pub returns-in-Stops : goal.returns-in-Stops
-returns-in-Stops c = record { turned = going_stop _ _ _ _ _ _ _ _ _ _ _ _ _ c.loop-out.invariant.0 c.one.ensures c.in-Stops.is (omega (arith, c.loop-out-test.true)); leaves = stop_leaves _ _ _ _ _ _ _ _ _ _ _ _ _ c.loop-out.invariant.0 c.one.ensures c.in-Stops.is (omega (arith, c.loop-out-test.true)) }
+pub returns-in-Some-clause-leaves : goal.returns-in-Some-clause-leaves
+returns-in-Some-clause-leaves c =
+    (under_stops _ _ _ _ _ _ _ c.loop-out.invariant.0 _ _ _ _ (c.in-Some.ensures) (omega (arith, c.loop-out-test.true)) c.end.ensures).1
 
--- src/lib.rt:95:1
-pub shape_of-out : goal.shape_of-out
-shape_of-out c = going_same _ _ _ _ _ _ _ _ _ c.loop-out.invariant.0
+pub returns-clause-turned : goal.returns-clause-turned
+returns-clause-turned c = (under_full _ _ _ _ _ _ _ c.loop-out.invariant.0 _ (omega (arith, c.loop-out-test.false)) c.end-2.ensures).0
 
--- src/lib.rt:95:1
-pub returns : goal.returns
-returns c = record { turned = going_full _ _ _ _ _ _ _ _ _ c.loop-out.invariant.0 (omega (arith, c.loop-out-test.false)); leaves = full_leaves _ _ _ _ _ _ _ _ _ c.loop-out.invariant.0 }
+pub returns-clause-leaves : goal.returns-clause-leaves
+returns-clause-leaves c = (under_full _ _ _ _ _ _ _ c.loop-out.invariant.0 _ (omega (arith, c.loop-out-test.false)) c.end-2.ensures).1

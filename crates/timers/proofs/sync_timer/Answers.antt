@@ -1,12 +1,12 @@
 -- `timer::sync_timer`: 10 ^ 9 is 5 ^ 9 × 2 ^ 9, so 5 ^ 9 moved up by n + 9 bits is 2 ^ n seconds.
+use Rattle.std.specs.Prelude.{Ok}
 use Rattle.std.proofs.Common.{ℕ, suc, ◌+◌, ◌-◌, ◌*◌, ◌%◌, ◌^◌, ◌≤◌, ◌≡◌, sym, ap, ◌∙◌, true, arith, mul_comm, lit<, ℤ, pos, negsuc, nat_abs, ◌-ℤ◌, pow-add, shl_exact}
-use Rattle.timers.specs.declared.TimerAnswer.TheVariants.{Value}
 use Rattle.timers.specs.Timers.{interval, in_interval, sync_timer}
 use Rattle.timers.proofs.TimerLaws.{sync_in, sync_out, low_end, high_end, less_52, shifted}
 use Rattle.timers.proofs.sync_timer.Goals as goal
 
 pub shift_of-up-requires : goal.shift_of-up-requires
-shift_of-up-requires c = sym c.is_interval.ensures ∙ c.if-is_interval.true
+shift_of-up-requires c = sym c.is_interval.ensures ∙ c.if-not-is_interval.false
 
 -- 5 ^ 9 moved up by n + 9 bits
 up_to : (s e : ℕ) → 26 - s ≡ e → e ≤ 25 → (1953125 * 2 ^ (26 - s)) % 2 ^ 64 ≡ 2 ^ e * 1953125
@@ -25,12 +25,12 @@ seconds (negsuc m) s h k e =
     let is : s + 35 ≡ 52 + suc m = e in
     up_to s (8 - m) (omega arith) (omega arith) ∙ sym (shifted (8 - m) m (omega arith))
 
-pub returns-then-is_interval : goal.returns-then-is_interval
-returns-then-is_interval c =
+pub returns : goal.returns
+returns c =
     let s = c.shift_of-up in
     let n = c.args.n in
-    let h : in_interval (interval n) ≡ true = sym c.is_interval.ensures ∙ c.if-is_interval.true in
-    ap Value (seconds (interval n) s.result h s.ensures.2 s.ensures.0) ∙ sym (sync_in n h)
+    let h : in_interval (interval n) ≡ true = sym c.is_interval.ensures ∙ c.if-not-is_interval.false in
+    ap Ok (seconds (interval n) s.result h s.ensures.2 s.ensures.0) ∙ sym (sync_in n h)
 
-pub returns-else-is_interval : goal.returns-else-is_interval
-returns-else-is_interval c = sym (sync_out _ (sym c.is_interval.ensures ∙ c.if-is_interval.false))
+pub returns-then-not-is_interval : goal.returns-then-not-is_interval
+returns-then-not-is_interval c = sym (sync_out _ (sym c.is_interval.ensures ∙ c.if-not-is_interval.true))

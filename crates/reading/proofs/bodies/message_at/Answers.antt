@@ -14,16 +14,16 @@ get_timestamp-stamp-requires c = omega (arith, c.if-stated-length.false, c.lengt
 pub body_at-requires : goal.body_at-requires
 body_at-requires c = (omega (arith, c.if-stated-length.false, c.length.ensures), c.get_timestamp-stamp.ensures)
 
-pub returns-in-Value : goal.returns-in-Value
+pub returns-in-Ok : goal.returns-in-Ok
 unfolding message_of
-returns-in-Value c =
+returns-in-Ok c =
     let stamp = c.get_timestamp-stamp.ensures in
-    let read = sym (c.of_wire-read.ensures ∙ ap time_of_wire stamp) ∙ c.in-Value.is in
+    let read = sym (c.of_wire.ensures ∙ ap time_of_wire stamp) ∙ c.in-Ok.is in
     simp (le-ltb _ _ c.if-stated-length.false, sym c.length.ensures, read, c.body_at.ensures, sym c.requires.0)
 
-pub returns-in-Seconds : goal.returns-in-Seconds
+pub returns-in-Err : goal.returns-in-Err
 unfolding message_of
-returns-in-Seconds c =
+returns-in-Err c =
     let stamp = c.get_timestamp-stamp.ensures in
-    let read = sym (c.of_wire-read.ensures ∙ ap time_of_wire stamp) ∙ c.in-Seconds.is in
+    let read = sym (c.of_wire.ensures ∙ ap time_of_wire stamp) ∙ c.in-Err.is in
     simp (le-ltb _ _ c.if-stated-length.false, sym c.length.ensures, read)

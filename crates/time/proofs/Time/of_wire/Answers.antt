@@ -1,6 +1,6 @@
 -- `Time::of_wire`: the product is worked out in parts below 2 ^ 64, and spells the timestamp's units.
+use Rattle.std.specs.Prelude.{Ok}
 use Rattle.std.proofs.Common.{ℕ, ◌+◌, ◌*◌, ◌/◌, ◌%◌, ◌^◌, ◌≡◌, sym, ap, ◌∙◌, arith, pos}
-use Rattle.time.specs.declared.ReadAnswer.TheVariants as R
 use Rattle.time.specs.Units.{spelled, time_words, wire}
 use Rattle.time.specs.WireLaws.{read_in, read_out}
 use Rattle.time.specs.Laws.{time_words_back}
@@ -16,8 +16,9 @@ returns-then-seconds-lt281474976710656 c =
     let w = c.args.w in
     sym
     (read_in w (omega (arith, c.if-seconds-lt281474976710656.true))
-    ∙ ap (λ (n : ℕ). R.Value (time_words (pos n))) (sym (units w.seconds w.nanos))
-    ∙ ap R.Value (time_words_back _ _ (omega arith)))
+    ∙ ap (λ (n : ℕ). Ok (time_words (pos ((w.seconds * 10 ^ 9 + n) * 2 ^ 32)))) (sym c.from.ensures)
+    ∙ ap (λ (n : ℕ). Ok (time_words (pos n))) (sym (units w.seconds c.from.result))
+    ∙ ap Ok (time_words_back _ _ (omega arith)))
 
 pub returns-else-seconds-lt281474976710656 : goal.returns-else-seconds-lt281474976710656
 returns-else-seconds-lt281474976710656 c = sym (read_out c.args.w (omega (arith, c.if-seconds-lt281474976710656.false)))

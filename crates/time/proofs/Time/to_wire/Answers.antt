@@ -1,8 +1,9 @@
 -- `Time::to_wire`: the division by 10 ^ 9 is worked out in parts below 2 ^ 64, the high word first.
+use Rattle.std.specs.Prelude.{Ok, Err}
 use Rattle.std.proofs.Common.{ℕ, ◌+◌, ◌*◌, ◌/◌, ◌%◌, ◌^◌, ◌≤◌, ◌<◌, ◌≡◌, sym, arith, pos, lt-ltb, le-ltb}
-use Rattle.time.specs.declared.WireAnswer.TheVariants as W
 use Rattle.time.specs.Units.{spelled, time, wire_of}
 use Rattle.time.proofs.Time.to_wire.Goals as goal
+use Rattle.time.specs.declared.TimeError.{TimeError}
 
 -- whole nanoseconds, and the rest, of two words
 nanoseconds : (h l : ℕ) → (h * 2 ^ 64 + l) / 2 ^ 32 ≡ h * 2 ^ 32 + l / 2 ^ 32
@@ -24,12 +25,12 @@ small h m p q = omega arith
 large : (h m : ℕ) → 65536000000000 ≤ h → 2 ^ 48 ≤ (h * 2 ^ 32 + m) / 10 ^ 9
 large h m q = omega arith
 
-sent : (h l : ℕ) → l < 2 ^ 64 → h < 65536000000000 → wire_of (pos (spelled h l)) ≡ W.Value (record { seconds = h / 10 ^ 9 * 2 ^ 32 + (h % 10 ^ 9 * 2 ^ 32 + l / 2 ^ 32) / 10 ^ 9; nanos = (h % 10 ^ 9 * 2 ^ 32 + l / 2 ^ 32) % 10 ^ 9 }) (l % 2 ^ 32 / 2 ^ 16)
+sent : (h l : ℕ) → l < 2 ^ 64 → h < 65536000000000 → wire_of (pos (spelled h l)) ≡ Ok (record { seconds = h / 10 ^ 9 * 2 ^ 32 + (h % 10 ^ 9 * 2 ^ 32 + l / 2 ^ 32) / 10 ^ 9; nanos = (h % 10 ^ 9 * 2 ^ 32 + l / 2 ^ 32) % 10 ^ 9 }, (l % 2 ^ 32 / 2 ^ 16))
 unfolding wire_of
 sent h l p q =
     simp (nanoseconds h l, rest h l) (simp (lt-ltb _ _ (small h (l / 2 ^ 32) (omega arith) q)) (simp (quotient h (l / 2 ^ 32), remainder h (l / 2 ^ 32))))
 
-refused : (h l : ℕ) → 65536000000000 ≤ h → wire_of (pos (spelled h l)) ≡ W.Out
+refused : (h l : ℕ) → 65536000000000 ≤ h → wire_of (pos (spelled h l)) ≡ Err TimeError.OutOfRange
 unfolding wire_of
 refused h l q = simp (nanoseconds h l, le-ltb _ _ (large h (l / 2 ^ 32) q))
 

@@ -1,8 +1,5 @@
-use Rattle.std.proofs.Common.{◌≡◌, ◌+◌, ◌-◌, ◌≤◌}
+use Rattle.std.proofs.Common.{◌≡◌, ◌+◌, ◌++◌, IsPermutation, vec_len}
 use Rattle.weave.proofs.order.woven.Given as goal
 
-abbrev pub invariant-loop-row : goal.invariant-loop-row
-invariant-loop-row l = (l.w.sync ≤ l.syncs) × (l.w.request ≤ l.rest) × (l.w.free ≤ l.count) × (l.w.sync + l.w.request + l.w.free ≡ l.syncs + l.rest + l.row.count) × (l.row.count ≤ l.count)
-
-abbrev pub decreases-loop-row : goal.decreases-loop-row
-decreases-loop-row l = l.count - l.row.count
+abbrev pub invariant-loop : goal.invariant-loop
+invariant-loop l = (l.counter + vec_len l.left ≡ vec_len l.block.events) × IsPermutation l.block.events.items (l.order.items ++ l.left.items)

@@ -11,29 +11,29 @@ put_timestamp-requires c = omega (arith, rest_room c.args.b _ refl, c.requires)
 pub put-requires : goal.put-requires
 unfolding size_of
 put-requires c =
-    let q = sym c.rest-rest.ensures ∙ c.in-Reserved.is in
+    let q = sym c.rest.ensures ∙ c.in-Reserved.is in
     omega (arith, rest_room c.args.b Q.Reserved q)
 
 pub put_identity-requires : goal.put_identity-requires
 unfolding size_of identity_entries
 put_identity-requires c =
-    let q = sym c.rest-rest.ensures ∙ c.in-Requester.is in
+    let q = sym c.rest.ensures ∙ c.in-Requester.is in
     omega (arith, rest_room c.args.b (Q.Requester c.in-Requester.who) q)
 
 pub returns-in-Nothing : goal.returns-in-Nothing
 unfolding puts body_entries timestamp_entries
 returns-in-Nothing c =
-    let q = sym c.rest-rest.ensures ∙ c.in-Nothing.is in
+    let q = sym c.rest.ensures ∙ c.in-Nothing.is in
     simp (q, c.put_timestamp.ensures, c.timestamp.ensures)
 
 pub returns-in-Reserved : goal.returns-in-Reserved
 unfolding puts body_entries timestamp_entries
 returns-in-Reserved c =
-    let q = sym c.rest-rest.ensures ∙ c.in-Reserved.is in
+    let q = sym c.rest.ensures ∙ c.in-Reserved.is in
     simp (q, c.put.ensures, c.put_timestamp.ensures, c.timestamp.ensures)
 
 pub returns-in-Requester : goal.returns-in-Requester
 unfolding puts body_entries timestamp_entries
 returns-in-Requester c =
-    let q = sym c.rest-rest.ensures ∙ c.in-Requester.is in
+    let q = sym c.rest.ensures ∙ c.in-Requester.is in
     simp (q, c.put_identity.ensures, c.put_timestamp.ensures, c.timestamp.ensures)

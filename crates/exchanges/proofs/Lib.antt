@@ -1,2 +1,0 @@
--- A lemma that several proofs of functions cite.
-mod Laws

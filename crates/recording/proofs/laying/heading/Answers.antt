@@ -1,5 +1,0 @@
-use Rattle.text.specs.PageLaws.{wrote_then}
-use Rattle.recording.proofs.laying.heading.Goals as goal
-
-pub returns : goal.returns
-returns c = wrote_then c.put-next.ensures c.spell.ensures

@@ -1,3 +1,0 @@
--- Lemmas that several of the functions' proofs cite.
-mod CaseLaws
-mod HandleLaws

@@ -1,0 +1,6 @@
+use Rattle.std.proofs.Common.{take}
+use Rattle.text.specs.Lent.{Writes}
+use Rattle.text.proofs.Page.copy.Given as goal
+
+abbrev pub invariant-loop-byte : goal.invariant-loop-byte
+invariant-loop-byte l = Writes l.initial.self (take l.byte-index l.s) l.self
