@@ -16,7 +16,8 @@ pub(crate) fn length_at(s: &[u8], at: usize) -> usize
     usize::from(octets::get_u16(s, at))
 }
 
-// Each of these asks that its bytes lie in the field: three bounds of one file, for which a type would be made in one place.
+// The functions of this file ask that their bytes lie in the field that they are lent: bounds of private functions, each of its own
+// size, which one test of the caller's answers for several at once.
 #[tactic(auto, unfolding(crate::specs::Fields::time_at))]
 pub(crate) fn time_at(f: &[u8], at: usize) -> Time
     requires { at + 16 ≤ length f.now }

@@ -38,10 +38,7 @@ pub fn peer_stamped(held: PeerState, sequence: u16, sent: Time) -> Option<PeerSt
 fn is_another(responder: Option<Identity>, source: Identity) -> bool
     ensures { result ≡ another responder source }
 {
-    match responder {
-        Some(known) => known != source,
-        None => false,
-    }
+    responder.is_some_and(|known| known != source)
 }
 
 // Whether this is the answer of a second responder to the request, be it measured already or not.

@@ -3,12 +3,13 @@
 #![tactic(auto)]
 
 ghost use Rattle.std.specs.Prelude.{◌≡◌, ◌||◌};
-ghost use Rattle.fitness.specs.Fit.{held_time, times_in, peer_times, slave_times, time_out, any_out, interval_out, draw_out, there, timeless, unanswered, full, peer_full, sync_timeless, slave_full, config_out, unfit};
+ghost use Rattle.fitness.specs.Fit.{held_time, times_in, peer_times, slave_times, time_out, any_out, interval_out, draw_out, timeless, unanswered, full, peer_full, sync_timeless, slave_full, config_out, unfit};
 
 use record::{Config, Exchange, PeerState, Port, PortState};
 use time::Time;
 
 // Whether the words of a time have the top bit set.
+#[tactic(auto, unfolding(crate::specs::Fit::time_out))]
 pub fn time_out(t: Time) -> bool
     ensures { result ≡ time_out t }
 {
@@ -16,6 +17,7 @@ pub fn time_out(t: Time) -> bool
 }
 
 // Whether a draw is 2^52 or more.
+#[tactic(auto, unfolding(crate::specs::Fit::draw_out))]
 pub fn draw_out(k: u64) -> bool
     ensures { result ≡ draw_out k }
 {
@@ -23,12 +25,14 @@ pub fn draw_out(k: u64) -> bool
 }
 
 // Whether a log interval is below -9 or above 16.
+#[tactic(auto, unfolding(crate::specs::Fit::interval_out))]
 fn interval_out(byte: u8) -> bool
     ensures { result ≡ interval_out byte }
 {
     !timers::is_interval(byte)
 }
 
+#[tactic(auto, unfolding(crate::specs::Fit::config_out, crate::specs::Fit::sdo_out, crate::specs::Fit::minor_out))]
 fn config_out(config: Config) -> bool
     ensures { result ≡ config_out config }
 {
@@ -38,34 +42,19 @@ fn config_out(config: Config) -> bool
     intervals | (sdo > 4095) | (minor > 1)
 }
 
-fn is_there(held: Option<Time>) -> bool
-    ensures { result ≡ there held }
-{
-    match held {
-        None => false,
-        Some(_) => true,
-    }
-}
-
 fn held_out(held: Option<Time>) -> bool
     ensures { result ≡ any_out (held_time held) }
 {
-    match held {
-        None => false,
-        Some(t) => time_out(t),
-    }
+    held.is_some_and(time_out)
 }
 
+#[tactic(auto, using(crate::proofs::FitLaws::out_joined))]
 fn times_out(exchange: Exchange) -> bool
     ensures { result ≡ any_out (times_in exchange) }
 {
     match exchange {
+        Exchange::Measuring { send, receive, .. } => held_out(send) | held_out(receive),
         Exchange::Empty => false,
-        Exchange::Measuring {
-            id: _,
-            send,
-            receive,
-        } => held_out(send) | held_out(receive),
     }
 }
 
@@ -73,50 +62,46 @@ fn times_out(exchange: Exchange) -> bool
 fn is_timeless(exchange: Exchange) -> bool
     ensures { result ≡ timeless exchange }
 {
-    match exchange {
-        Exchange::Empty => false,
+    matches!(
+        exchange,
         Exchange::Measuring {
-            id: _,
-            send,
-            receive,
-        } => !is_there(send) & !is_there(receive),
-    }
+            send: None,
+            receive: None,
+            ..
+        }
+    )
 }
 
 // Open, and both times are there.
 fn is_full(exchange: Exchange) -> bool
     ensures { result ≡ full exchange }
 {
-    match exchange {
-        Exchange::Empty => false,
+    matches!(
+        exchange,
         Exchange::Measuring {
-            id: _,
-            send,
-            receive,
-        } => is_there(send) & is_there(receive),
-    }
+            send: Some(_),
+            receive: Some(_),
+            ..
+        }
+    )
 }
 
+#[tactic(auto, using(crate::proofs::FitLaws::out_joined))]
 fn peer_times_out(peer: PeerState) -> bool
     ensures { result ≡ any_out (peer_times peer) }
 {
     match peer {
-        PeerState::Empty => false,
         PeerState::Measuring {
-            id: _,
-            responder: _,
             request_send,
             request_receive,
             response_send,
             response_receive,
+            ..
         } => {
             let request = held_out(request_send) | held_out(request_receive);
             request | held_out(response_send) | held_out(response_receive)
         }
-        PeerState::Measured {
-            id: _,
-            responder: _,
-        } => false,
+        _ => false,
     }
 }
 
@@ -125,24 +110,14 @@ fn is_unanswered(peer: PeerState) -> bool
     ensures { result ≡ unanswered peer }
 {
     match peer {
-        PeerState::Empty => false,
         PeerState::Measuring {
-            id: _,
-            responder,
-            request_send: _,
+            responder: None,
             request_receive,
             response_send,
             response_receive,
-        } => match responder {
-            None => {
-                is_there(request_receive) | is_there(response_send) | is_there(response_receive)
-            }
-            Some(_) => false,
-        },
-        PeerState::Measured {
-            id: _,
-            responder: _,
-        } => false,
+            ..
+        } => request_receive.is_some() | response_send.is_some() | response_receive.is_some(),
+        _ => false,
     }
 }
 
@@ -150,39 +125,25 @@ fn is_unanswered(peer: PeerState) -> bool
 fn peer_full(peer: PeerState) -> bool
     ensures { result ≡ peer_full peer }
 {
-    match peer {
-        PeerState::Empty => false,
+    matches!(
+        peer,
         PeerState::Measuring {
-            id: _,
-            responder: _,
-            request_send,
-            request_receive,
-            response_send,
-            response_receive,
-        } => {
-            let request = is_there(request_send) & is_there(request_receive);
-            request & is_there(response_send) & is_there(response_receive)
+            request_send: Some(_),
+            request_receive: Some(_),
+            response_send: Some(_),
+            response_receive: Some(_),
+            ..
         }
-        PeerState::Measured {
-            id: _,
-            responder: _,
-        } => false,
-    }
+    )
 }
 
+#[tactic(auto, using(crate::proofs::FitLaws::out_joined))]
 fn slave_times_out(state: PortState) -> bool
     ensures { result ≡ any_out (slave_times state) }
 {
     match state {
-        PortState::Listening => false,
-        PortState::Master => false,
-        PortState::Passive => false,
-        PortState::Faulty => false,
-        PortState::Slave(s) => {
-            let sync = s.sync;
-            let delay = s.delay;
-            times_out(sync) | times_out(delay)
-        }
+        PortState::Slave(s) => times_out(s.sync) | times_out(s.delay),
+        _ => false,
     }
 }
 
@@ -191,14 +152,8 @@ fn sync_timeless(state: PortState) -> bool
     ensures { result ≡ sync_timeless state }
 {
     match state {
-        PortState::Listening => false,
-        PortState::Master => false,
-        PortState::Passive => false,
-        PortState::Faulty => false,
-        PortState::Slave(s) => {
-            let open = s.sync;
-            is_timeless(open)
-        }
+        PortState::Slave(s) => is_timeless(s.sync),
+        _ => false,
     }
 }
 
@@ -207,19 +162,13 @@ fn slave_full(state: PortState) -> bool
     ensures { result ≡ slave_full state }
 {
     match state {
-        PortState::Listening => false,
-        PortState::Master => false,
-        PortState::Passive => false,
-        PortState::Faulty => false,
-        PortState::Slave(s) => {
-            let sync = s.sync;
-            let delay = s.delay;
-            is_full(sync) | is_full(delay)
-        }
+        PortState::Slave(s) => is_full(s.sync) | is_full(s.delay),
+        _ => false,
     }
 }
 
 // Row 2: the record is unfit, so that no event may be taken.
+#[tactic(auto, using(crate::proofs::FitLaws::unfit_parts))]
 pub fn is_unfit(port: Port) -> bool
     ensures { result ≡ unfit port }
 {

@@ -1,5 +1,5 @@
 -- Laws of what becomes of a flow: each case, by what the code finds.
-use Rattle.std.specs.Prelude.{ℕ, zero, suc, min, ◌≡◌, refl, Ok, Err, ⊤, Bool, true, false, T, ℤ, pos, negsuc, nat_abs}
+use Rattle.std.specs.Prelude.{ℕ, zero, suc, min, ◌≡◌, refl, Result, Ok, Err, ⊤, Bool, false, T, ℤ, pos, negsuc, nat_abs}
 use Rattle.std.proofs.Common.{sym, ◌∙◌, ap, subst, true≢false, arith, to_z, of_z, Fits, SFits}
 use Rattle.std.specs.Int.Signed.{lt_z, non_neg}
 use Rattle.std.specs.Int.{w64}
@@ -20,20 +20,32 @@ module _ {E : Type 0} (f : Flow) where
   unfolding after_of
   after_written t w s h = ap (λ (x : Stop). Ok (onwards f t x)) (sym h)
 
-  -- ---- behind a read
+  -- ---- behind a read, by its answer
+
+  below : (z : Result ℕ E) (e : E) (room : ℕ) → z ≡ Err e → Err e ≡ came_of f z room
+  unfolding came_of
+  below z e room h = ap (λ (x : Result ℕ E). came_of f x room) (sym h)
+
+  none : (room : ℕ) → Ok (ended f) ≡ came_of {E = E} f (Ok 0) room
+  unfolding came_of
+  none room = refl
+
+  above : (z : Result ℕ E) (n room : ℕ) → z ≡ Ok n → (n ≡ 0 → ⊥) → Ok (grown f (min n room)) ≡ came_of f z room
+  unfolding came_of
+  above z n room h e = some n e ∙ ap (λ (x : Result ℕ E). came_of f x room) (sym h)
+    where
+      some : (k : ℕ) → (k ≡ 0 → ⊥) → Ok (grown f (min k room)) ≡ came_of {E = E} f (Ok k) room
+      some zero g = absurd (g refl)
+      some (suc k) g = refl
 
   pub came_failed : (e : E) (room : ℕ) → Err e ≡ came_of f (Err e) room
-  unfolding came_of
-  came_failed e room = refl
+  came_failed e room = below (Err e) e room refl
 
   pub came_nothing : (room : ℕ) → Ok (ended f) ≡ came_of {E = E} f (Ok 0) room
-  unfolding came_of
-  came_nothing room = refl
+  came_nothing room = none room
 
   pub came_some : (n room : ℕ) → (n ≡ 0 → ⊥) → Ok (grown f (min n room)) ≡ came_of {E = E} f (Ok n) room
-  unfolding came_of
-  came_some zero room h = absurd (h refl)
-  came_some (suc n) room h = refl
+  came_some n room h = above (Ok n) n room refl h
 
 -- ---- a number with a sign, as it is kept in 64 bits and read back from them
 

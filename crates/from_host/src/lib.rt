@@ -13,10 +13,7 @@ use time::Duration;
 fn with_mean(port: Port, mean: Option<Duration>) -> Port
     ensures { result ≡ mean_given port mean }
 {
-    match mean {
-        None => port,
-        Some(given) => port.with_mean(given),
-    }
+    mean.map_or(port, |given| port.with_mean(given))
 }
 
 #[tactic(auto, unfolding(rules::specs::Rules::filtered))]

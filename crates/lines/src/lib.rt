@@ -26,6 +26,7 @@ pub enum Style {
 // What a line shows of a measurement: its letter, the raw (for P the halved) value, event time, offset and delay.
 #[derive(Clone, Copy)]
 pub struct Shown {
+    // the letter as it is put on the line
     pub letter: u8,
     pub value: Option<Duration>,
     pub time: Option<Time>,

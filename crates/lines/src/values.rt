@@ -25,7 +25,8 @@ pub(crate) fn identity(page: &mut Page, who: Identity)
     page.hex(4, u64::from(who.port));
 }
 
-// Stay three: one function for the three values would take the text as a closure, whose contract is longer than the arms that it saves.
+// Stay three, as maybe_time, maybe_duration and maybe_identity of specs/ are: one for all would take the text as a closure, with a contract
+// that is longer than the arms that it saves.
 #[tactic(auto, using(text::specs::PageLaws::typed_append), unfolding(crate::specs::Lines::maybe_time))]
 pub(crate) fn maybe_time(page: &mut Page, t: Option<Time>)
     ensures { Writes page.old (maybe_time t) page.new }

@@ -1,5 +1,5 @@
 // The answering half of a port, after master.rs of the Rust: the Sync and its FollowUp, which a Master sends,
-// and what is answered to the requests of others. The rules are those of crate rules.
+// and what is answered to the requests of others. The rules are those of crate rules; a handler for each, by the Rust's names.
 #![tactic(auto)]
 
 ghost use Rattle.std.specs.Prelude.{◌≡◌};

@@ -25,10 +25,7 @@ fn raw_between(a: Time, b: Time, asymmetry: Duration) -> Result<Duration, Outcom
 fn less_mean(raw: Duration, mean: Option<Duration>) -> Result<Option<Duration>, Outcome>
     ensures { result ≡ less_mean raw mean }
 {
-    match mean {
-        None => Ok(None),
-        Some(mean) => Ok(Some(raw.minus(mean)?)),
-    }
+    Ok(mean.map(|mean| raw.minus(mean)).transpose()?)
 }
 
 // The delay, where a raw sync offset is kept.
@@ -36,10 +33,8 @@ fn less_mean(raw: Duration, mean: Option<Duration>) -> Result<Option<Duration>, 
 fn half_below(last: Option<Duration>, raw: Duration) -> Result<Option<Duration>, Outcome>
     ensures { result ≡ half_below last raw }
 {
-    match last {
-        None => Ok(None),
-        Some(last) => Ok(Some(last.minus(raw)?.half())),
-    }
+    let twice = last.map(|last| last.minus(raw)).transpose()?;
+    Ok(twice.map(|twice| twice.half()))
 }
 
 #[tactic(auto, unfolding(rules::specs::Measuring::measure_sync, crate::specs::Taking::raw_between))]

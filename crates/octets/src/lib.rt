@@ -17,11 +17,12 @@ pub fn get(s: &[u8], at: usize, width: usize) -> u64
 
 // The casts lose nothing, as the width bounds each number, and the check proves it: try_from would test it once more.
 // Stay six: lines over `get` and `put`, one for each type: a trait with six impls would be longer, and its callers would name the type instead.
+#[tactic(auto, unfolding(crate::specs::Bytes::number))]
 pub fn get_u8(s: &[u8], at: usize) -> u8
     requires { at + 1 ≤ length s.now }
     ensures { result ≡ number at 1 s.now }
 {
-    get(s, at, 1) as u8
+    s[at]
 }
 
 pub fn get_u16(s: &[u8], at: usize) -> u16

@@ -1,7 +1,9 @@
 -- Laws of the window between two turns.
-use Rattle.std.specs.Prelude.{ℕ, zero, suc, ◌+◌, ◌-◌, ◌^◌, ◌≤◌, ◌<◌, ◌≡◌, List, ◌++◌, length, take, drop, Result, Ok, Err, Some, IfOk, ⊤, refl}
+use Rattle.std.specs.Prelude.{ℕ, zero, suc, ◌+◌, ◌-◌, ◌^◌, ◌≤◌, ◌<◌, ◌≡◌, Bool, not, List, ◌++◌, length, take, drop, Result, Ok, Err, Some, IfOk, ⊤, refl}
 use Rattle.std.specs.declared.io.Error.{Error}
-use Rattle.std.proofs.Common.{sym, ◌∙◌, ap, subst, arith, length-drop, length-append, length-take-le, take_at}
+use Rattle.std.proofs.Common.{sym, ◌∙◌, ap, subst, true≢false, arith, length-drop, length-append, length-take-le, take_at}
+use Rattle.std.proofs.Math.Bool.{true, false}
+use Rattle.std.proofs.lemmas.Bool.{false≢true}
 use Rattle.std.proofs.Math.Nat.{min-le_right}
 use borrow.Rule.Slice.PartMut.{put_mid}
 use Rattle.writing.specs.LentLaws.{put_part}
@@ -130,14 +132,25 @@ turning_first style w d f e =
       ran = Ran.none f e;
     }
 
+goes : (b : Bool) → not b ≡ false → b ≡ true
+goes true h = refl
+goes false h = absurd (true≢false h)
+
+halts : (b : Bool) → not b ≡ true → b ≡ true → ⊥
+halts true h g = false≢true h
+halts false h g = false≢true g
+
 module _ (style : Style) (w₀ d₀ w d : List ℕ) (f : Flow) (turns : ℕ) (t : Turning style w₀ d₀ w d f turns) where
+  one_more : (r : Flow) (w' d' : List ℕ) → Turns style f w d (Ok (Some r)) w' d' → Ran style w₀ d₀ (turns + 1) r w' d'
+  one_more r w' d' h = Ran.one_more turns f w d r w' d' t.ran h
+
   pub turning_more : (r : Flow) (w' d' : List ℕ) → Turns style f w d (Ok (Some r)) w' d' → Sound r (length w) → length w' ≡ length w → length d' ≡ length d → Turning style w₀ d₀ w' d' r (turns + 1)
   turning_more r w' d' h s v b =
       record {
         sound = subst (λ (k : ℕ). Sound r k) t.window s;
         window = v ∙ t.window;
         buffer = b ∙ t.buffer;
-        ran = Ran.one_more turns f w d r w' d' t.ran h;
+        ran = one_more r w' d' h;
       }
 
   pub turning_ends : (r : Result ⊤ Trouble) (w' d' : List ℕ) → Last style turns f w d r w' d' → Pumped style w₀ d₀ w' d' r

@@ -19,7 +19,6 @@ use Rattle.handling.specs.Handling.{handed_on, handled_of}
 use Rattle.rows.specs.Rows.{opened, gate_of}
 use Rattle.rows.specs.RowLaws.{IsOpen, gate_open, gate_shut}
 use Rattle.port.specs.Entries.{answer_for, Answers}
-use Rattle.handling.specs.Sending.{length_left, buffer_left}
 use Rattle.port.specs.Pieces.{Ready, answer_sent, buffer_sent, answer_by, buffer_by}
 use Rattle.port.specs.SendLaws.{ready_length, ready_buffer}
 
@@ -41,9 +40,20 @@ unfolding buffer_sent
 buffer_told None l = refl
 buffer_told (Some m) l = refl
 
-done_told : (p : Port) (d : Done) (l : List ℕ) → (answer_sent (handed_on d).message (handed_on d).answer ≡ answer_for (answered p (worked d))) × (buffer_sent (handed_on d).message l ≡ buffer_after (answered p (worked d)) l)
+-- a handler's answer once it is sent: a refusal is told as it is, and nothing is to be sent
+abbrev told_of : Port → Worked Handled → Answer
+told_of p (worked h) = answer_sent h.message h.answer
+told_of p (refused o) = refused_with o p
+
+abbrev left_of : Worked Handled → List ℕ → List ℕ
+left_of (worked h) l = buffer_sent h.message l
+left_of (refused o) l = l
+
+handled_told : (p : Port) (w : Worked Done) (l : List ℕ) → (told_of p (handled_of w) ≡ answer_for (answered p w)) × (left_of (handled_of w) l ≡ buffer_after (answered p w) l)
 unfolding handed_on answer_for buffer_after buffer_sent
-done_told p d l = (answer_told d.port d.measurement d.actions d.reset d.message, buffer_told d.message l)
+handled_told p (worked d) l =
+    (answer_told d.port d.measurement d.actions d.reset d.message, buffer_told d.message l)
+handled_told p (refused o) l = (refl, refl)
 
 -- ---- what a rule sends, a buffer of 64 bytes takes
 
@@ -51,11 +61,23 @@ taken_ready : (m : Option Message) (room : ℕ) → 64 ≤ room → Writable m �
 taken_ready None room h k = tt
 taken_ready (Some m) room h k = k room h
 
-rule_ready : (p : Port) (e : Event) (d : Done) (room : ℕ) → 64 ≤ room → InTypes p e → unfit p ≡ false → rule_of p e ≡ worked d → Ready (handed_on d).message room
-unfolding handed_on
-rule_ready p e d room h k fit r = taken_ready d.message room h (sent_writable p e d k fit r)
+-- of a refusal nothing is to be sent
+abbrev ReadyOf : Worked Handled → ℕ → Type 0
+ReadyOf (worked h) room = Ready h.message room
+ReadyOf (refused o) room = Unit {0}
 
--- ---- the three ends of every entry: `limits` is its test of row 3, g the gate's answer
+rule_ready : (p : Port) (e : Event) (w : Worked Done) (room : ℕ) → 64 ≤ room → InTypes p e → unfit p ≡ false → rule_of p e ≡ w → ReadyOf (handled_of w) room
+unfolding handed_on
+rule_ready p e (worked d) room h k fit r = taken_ready d.message room h (sent_writable p e d k fit r)
+rule_ready p e (refused o) room h k fit r = tt
+
+-- what goes out of the entry is what is told: of a message that the buffer takes, its bytes and their number
+sent_told : (p : Port) (h : Worked Handled) (l : List ℕ) → ReadyOf h (length l) → (answer_by p h (length l) ≡ told_of p h) × (buffer_by h l ≡ left_of h l)
+sent_told p (worked h) l takes =
+    (ap (with_length h.answer) (ready_length h.message h.answer.length (length l) takes), ready_buffer h.message l takes)
+sent_told p (refused o) l takes = (refl, refl)
+
+-- ---- the two ends of every entry: `limits` is its test of row 3, g the gate's answer
 
 module _ (p : Port) (e : Event) (l : List ℕ) (limits : Bool) (g : Worked (Unit {0})) (row : limits ≡ row3 e) (is : g ≡ gate_of p (length l) limits) where
   gate_is : gate_of p (length l) (row3 e) ≡ g
@@ -68,41 +90,24 @@ module _ (p : Port) (e : Event) (l : List ℕ) (limits : Bool) (g : Worked (Unit
       let (x, y) = refusal_told o p l in
       (r ∙ x ∙ ap answer_for (sym s), y ∙ ap (λ (z : Answered). buffer_after z l) (sym s))
 
-  -- it is open
-  module _ (is_open : g ≡ opened) where
+  -- it is open, and h is what the event's handler answers
+  module _ (h : Worked Handled) (is_open : g ≡ opened) (r : h ≡ handled_of (rule_of p e)) where
     passed : IsOpen p (length l) (row3 e)
     passed = gate_open p (length l) (row3 e) (gate_is ∙ is_open)
 
-    by_rule : (w : Worked Done) → rule_of p e ≡ w → step p (length l) e ≡ answered p w
+    -- the buffer takes what is to be sent
+    ready : PortIn p → ContextIn e → BytesIn e → ReadyOf h (length l)
+    ready t context bytes =
+        subst (λ (z : Worked Handled). ReadyOf z (length l)) (sym r)
+        (rule_ready p e (rule_of p e) (length l) (ltb-false (length l) 64 passed.enough) (record { port = t; context = context; bytes = bytes }) passed.fit refl)
+
+    -- and once it is sent, the entry has answered; a refusal is told as it is
+    pub sent : PortIn p → ContextIn e → BytesIn e → (a : Answer) (left : List ℕ) → a ≡ answer_by p h (length l) → left ≡ buffer_by h l → Answers p e l a left
     unfolding row1
-    by_rule w r = step_rule p (length l) e passed.enough passed.fit passed.within ∙ ap (answered p) r
-
-    -- and the rule refuses
-    pub ruled_out : (o : Outcome) (a : Answer) → rule_of p e ≡ refused o → a ≡ refused_with o p → Answers p e l a l
-    ruled_out o a r k =
-        let s : step p (length l) e ≡ refusal o p = by_rule (refused o) r in
-        let (x, y) = refusal_told o p l in
-        (k ∙ x ∙ ap answer_for (sym s), y ∙ ap (λ (z : Answered). buffer_after z l) (sym s))
-
-    -- or it hands on, and once that is sent, the entry has answered
-    pub sent : PortIn p → ContextIn e → BytesIn e → (d : Done) → rule_of p e ≡ worked d → (n : ℕ) (a : Answer) (left : List ℕ) → n ≡ length_left (handed_on d).message (handed_on d).answer.length (length l)
-        → a ≡ with_length (handed_on d).answer n → left ≡ buffer_left (handed_on d).message l → Answers p e l a left
-    sent t context bytes d r n a left k b y =
-        let h : Handled = handed_on d in
-        let takes : Ready h.message (length l) = rule_ready p e d (length l) (ltb-false (length l) 64 passed.enough) (record { port = t; context = context; bytes = bytes }) passed.fit r in
-        let x : a ≡ answer_sent h.message h.answer = b ∙ ap (with_length h.answer) (k ∙ ready_length h.message h.answer.length (length l) takes) in
-        let s : step p (length l) e ≡ answered p (worked d) = by_rule (worked d) r in
-        let (v, w) = done_told p d l in
-        (x ∙ v ∙ ap answer_for (sym s), y ∙ ready_buffer h.message l takes ∙ w ∙ ap (λ (z : Answered). buffer_after z l) (sym s))
-
-    -- what the handler answers, whichever it is
-    by_handler : PortIn p → ContextIn e → BytesIn e → (w : Worked Done) → rule_of p e ≡ w → (a : Answer) (left : List ℕ)
-        → a ≡ answer_by p (handled_of w) (length l) → left ≡ buffer_by (handled_of w) l → Answers p e l a left
-    by_handler t context bytes (worked d) r a left x y = sent t context bytes d r _ a left refl x y
-    by_handler t context bytes (refused o) r a left x y = subst (Answers p e l a) (sym y) (ruled_out o a r x)
-
-    pub handed : PortIn p → ContextIn e → BytesIn e → (h : Worked Handled) → h ≡ handled_of (rule_of p e) → (a : Answer) (left : List ℕ)
-        → a ≡ answer_by p h (length l) → left ≡ buffer_by h l → Answers p e l a left
-    handed t context bytes h is a left x y =
-        by_handler t context bytes (rule_of p e) refl a left
-        (x ∙ ap (λ (z : Worked Handled). answer_by p z (length l)) is) (y ∙ ap (λ (z : Worked Handled). buffer_by z l) is)
+    sent t context bytes a left x y =
+        let (b, k) = sent_told p h l (ready t context bytes) in
+        let s : step p (length l) e ≡ answered p (rule_of p e) = step_rule p (length l) e passed.enough passed.fit passed.within in
+        let (v, w) = handled_told p (rule_of p e) l in (
+          x ∙ b ∙ ap (told_of p) r ∙ v ∙ ap answer_for (sym s),
+          y ∙ k ∙ ap (λ (z : Worked Handled). left_of z l) r ∙ w ∙ ap (λ (z : Answered). buffer_after z l) (sym s),
+        )

@@ -1,6 +1,7 @@
 // A port at work: the seven entries of document 01's event list, each over the packet buffer that its caller lends.
 // Every entry is the same: the gate of rows 1, 2 and 3, what the event's handler hands on, and the packet. They stay seven, by the
-// names that the Rust has for them, each with its own event's parts.
+// names that the Rust has for them, each with its own event's parts. A closure behind and_then in place of the two arms would need a
+// clause of its own in each.
 #![tactic(auto)]
 
 ghost use Rattle.std.specs.Prelude.{◌≡◌, length};

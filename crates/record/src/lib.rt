@@ -11,7 +11,7 @@ pub mod sequence;
 use time::{Duration, Time};
 use wire::Identity;
 
-// A sync or a delay exchange, with the times that it holds.
+// A sync or a delay exchange, with the times that it holds. No Option: Empty is the record's own word, which the rules speak of.
 #[derive(Clone, Copy, PartialEq, Eq)]
 pub enum Exchange {
     Empty,
@@ -40,7 +40,7 @@ pub enum PortState {
     Slave(SlaveState),
 }
 
-// The peer exchange, which every state has.
+// The peer exchange, which every state has: three cases, and so no Option.
 #[derive(Clone, Copy, PartialEq, Eq)]
 pub enum PeerState {
     Empty,
@@ -174,7 +174,9 @@ pub struct Todo {
     pub action: Action,
 }
 
-// The first count places hold the actions, in their order; the others hold the empty one.
+// A flat answer, which is the form that the port's hosts were given: the outcome beside the parts, and an array of two small structs that
+// hold an action, with a count (answer_of, places and first_actions of specs/ speak of them). The first count places hold the actions, in
+// their order; the others hold the empty one.
 #[derive(Clone, Copy)]
 pub struct Answer {
     pub outcome: Outcome,

@@ -8,7 +8,7 @@ use time::Duration;
 use wire::Identity;
 
 impl PortState {
-    // The number that the event log has for each state.
+    // The number that the event log has for each state: a contract of `lines` and is_master, is_faulty and is_slave of specs/ name it.
     pub fn number(self) -> u8
         ensures { result ≡ state_number self }
     {

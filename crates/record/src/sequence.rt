@@ -3,8 +3,9 @@ ghost use Rattle.std.specs.Prelude.{◌≡◌};
 ghost use Rattle.record.specs.Ids.{id_after};
 
 // The id that follows: 0 comes after 65535.
+#[tactic(auto, unfolding(crate::specs::Ids::id_after))]
 pub fn id_after(id: u16) -> u16
     ensures { result ≡ id_after id }
 {
-    if id < 65535 { id + 1 } else { 0 }
+    id.wrapping_add(1)
 }

@@ -131,23 +131,17 @@ pub(crate) fn mean_size(mean: Option<Duration>) -> usize
     ensures size { result ≡ length (mean_bytes mean) }
     ensures small { result ≤ 19 }
 {
-    match mean {
-        None => 0,
-        Some(_) => 19,
-    }
+    mean.map_or(0, |_| 19)
 }
 
 #[tactic(auto, using(text::specs::PageLaws::typed_append, crate::proofs::LayingLaws::typed_field, crate::proofs::RecordingLaws::length_words), unfolding(crate::specs::Recording::mean_bytes))]
 pub(crate) fn mean(page: &mut Page, mean: Option<Duration>)
     ensures { Writes page.old (mean_bytes mean) page.new }
 {
-    match mean {
-        None => {}
-        Some(d) => {
-            heading(page, 5, 16);
-            long(page, d.hi);
-            long(page, d.lo);
-        }
+    if let Some(d) = mean {
+        heading(page, 5, 16);
+        long(page, d.hi);
+        long(page, d.lo);
     }
 }
 
@@ -156,22 +150,16 @@ pub(crate) fn next_size(next: Option<u64>) -> usize
     ensures size { result ≡ length (next_bytes next) }
     ensures small { result ≤ 11 }
 {
-    match next {
-        None => 0,
-        Some(_) => 11,
-    }
+    next.map_or(0, |_| 11)
 }
 
 #[tactic(auto, using(text::specs::PageLaws::typed_append, crate::proofs::LayingLaws::typed_field, crate::proofs::LayingLaws::length_spelled), unfolding(crate::specs::Recording::next_bytes))]
 pub(crate) fn next(page: &mut Page, next: Option<u64>)
     ensures { Writes page.old (next_bytes next) page.new }
 {
-    match next {
-        None => {}
-        Some(ns) => {
-            heading(page, 6, 8);
-            long(page, ns);
-        }
+    if let Some(ns) = next {
+        heading(page, 6, 8);
+        long(page, ns);
     }
 }
 

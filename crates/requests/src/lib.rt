@@ -13,7 +13,8 @@ use record::{
 };
 use timers::delay_timer;
 
-// A DelayReq goes out behind its timer, and takes the place of the one before.
+// A DelayReq goes out behind its timer, and takes the place of the one before. It and the PDelayReq each promise their own rule,
+// delay_sent and peer_sent.
 fn delay_req_sent(port: Port, s: SlaveState, ns: u64) -> Handled
     ensures { result ≡ handed_on (delay_sent port s ns) }
 {

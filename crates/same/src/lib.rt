@@ -117,6 +117,7 @@ pub fn same_ids(a: Ids, b: Ids) -> bool
     a == b
 }
 
+// This and the next two go by parts: the search for a proof stops at a derived comparison of so many levels.
 #[tactic(auto, unfolding(crate::specs::Same::same_slave))]
 pub fn same_slave(a: SlaveState, b: SlaveState) -> bool
     ensures { result ≡ same_slave a b }

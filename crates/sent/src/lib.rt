@@ -37,10 +37,8 @@ const NO_INTERVAL: u8 = 0x7f;
 pub fn less_fraction(c: u64, f: u16) -> Result<u64, TimeError>
     ensures { result ≡ correction_of (signed 64 c -ℤ pos f) }
 {
-    match c.cast_signed().checked_sub(i64::from(f)) {
-        Some(left) => Ok(left.cast_unsigned()),
-        None => Err(TimeError::OutOfRange),
-    }
+    let left = c.cast_signed().checked_sub(i64::from(f));
+    Ok(left.ok_or(TimeError::OutOfRange)?.cast_unsigned())
 }
 
 // What the answer to a request with this correction carries of the stamp at which the request came: its timestamp and a
@@ -80,17 +78,16 @@ impl Sender {
     fn header(self, t: MessageType, flags: u16, correction: u64, id: u16, interval: u8) -> Header
         ensures { result ≡ header_for self t flags correction id interval }
     {
-        let sdo = self.sdo;
+        let [major_sdo, minor_sdo] = self.sdo.to_be_bytes();
         let source = self.identity;
         Header {
-            // two bytes of a u16: no From narrows
-            major_sdo: (sdo / 256) as u8,
+            major_sdo,
             kind: t.number(),
             minor: self.minor,
             version: 2,
             length: t.length(),
             domain: self.domain,
-            minor_sdo: (sdo % 256) as u8,
+            minor_sdo,
             flags,
             correction,
             source,

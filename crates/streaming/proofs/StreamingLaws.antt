@@ -7,9 +7,12 @@ use mathlib.Core.List.{List, [], ◌∷◌, ◌++◌, append_assoc}
 use Rattle.std.proofs.Math.ListN.{length}
 use Rattle.std.proofs.Math.Seq.{take-nil, drop-nil}
 use Rattle.std.proofs.lemmas.List.{drop-append-le}
+use denote.Bor.{Bor}
+use Rattle.time.specs.declared.Time.{Time}
 use Rattle.record.specs.declared.Config.{Config}
-use Rattle.rules.specs.Events.{Event}
-use Rattle.event_log.specs.Told.{Next}
+use Rattle.rules.specs.Events.{Event, event, general}
+use Rattle.event_log.specs.declared.Logged.{Logged}
+use Rattle.event_log.specs.Told.{Next, told}
 use Rattle.event_log.specs.Fields.{front_of, none_of}
 use Rattle.streaming.specs.Log.{Fields, starts, next, good, bad, rest, onward, scan_from, scan, gathered, read_log}
 use Rattle.streaming.specs.Streaming.{feed, stream, joined, begun, fed, unread}
@@ -56,6 +59,16 @@ inside : (a k : ℕ) (s : List ℕ) → take k (drop a (take (a + k) s)) ≡ tak
 inside zero k s = ap (λ (n : ℕ). take k (take n s)) (zero-add k) ∙ take-take k k s (omega arith)
 inside (suc a) k [] = ap (λ (x : List ℕ). take k (drop (suc a) x)) (take-nil (suc a + k))
 inside (suc a) k (b ∷ s) = ap (λ (n : ℕ). take k (drop (suc a) (take n (b ∷ s)))) (suc-add a k) ∙ inside a k s
+
+lent : (s m : List ℕ) (a k n : ℕ) → a + k ≡ n → m ≡ take k (drop a (take n s)) → m ≡ take k (drop a s)
+lent s m a k n h e = e ∙ ap (λ (x : ℕ). take k (drop a (take x s))) (sym h) ∙ inside a k s
+
+-- a message that is lent from the field of n bytes: k of them from a on, where the field ends behind them
+pub told-event : (s : List ℕ) (t : Time) (m : Bor (List ℕ)) (a k n : ℕ) → a + k ≡ n → m.now ≡ take k (drop a (take n s)) → told (Logged.Event t m) ≡ event t (take k (drop a s))
+told-event s t m a k n h e = ap (event t) (lent s m.now a k n h e)
+
+pub told-general : (s : List ℕ) (m : Bor (List ℕ)) (a k n : ℕ) → a + k ≡ n → m.now ≡ take k (drop a (take n s)) → told (Logged.General m) ≡ general (take k (drop a s))
+told-general s m a k n h e = ap general (lent s m.now a k n h e)
 
 pub message_seen : (s : List ℕ) (n : ℕ) (m : List ℕ) → n ≤ length s → EndsWith (take n s) m → (a : ℕ) × (a + length m ≡ n) × (take (length m) (drop a s) ≡ m)
 message_seen s n m h (a, e, d) =

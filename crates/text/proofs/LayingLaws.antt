@@ -1,12 +1,13 @@
 -- Digits in any base, laid from the last one on: what the loops keep, and that they are those of `Digits`.
-use Rattle.std.specs.Prelude.{ℕ, zero, suc, ◌+◌, ◌*◌, ◌-◌, ◌/◌, ◌%◌, ◌^◌, ◌≤◌, ◌<◌, ◌≡◌, refl, List, [], ◌∷◌, ◌++◌, length, get_or, set, take}
-use Rattle.std.proofs.Common.{sym, ◌∙◌, ap, arith, add-zero, add-one, pow-suc, lt-ltb, le-ltb, length-append, length-set, append_assoc, append-nil, take-suc}
-use Rattle.std.proofs.lemmas.List.Edits.{sets}
+use Rattle.std.specs.Prelude.{ℕ, zero, suc, ◌+◌, ◌*◌, ◌-◌, ◌/◌, ◌%◌, ◌^◌, ◌≤◌, ◌<◌, ◌≡◌, refl, List, [], ◌∷◌, ◌++◌, length, get_or, set, take, drop}
+use Rattle.std.proofs.Common.{sym, ◌∙◌, ap, arith, add-one, pow-suc, lt-ltb, le-ltb, length-append, length-set, length-take, length-drop, append_assoc, append-nil, take-suc}
+use Rattle.std.proofs.lemmas.List.Edits.{sets, sets-eq}
+use Rattle.std.proofs.lemmas.List.{drop-set, drop-drop}
 use Rattle.std.proofs.lemmas.Bool.Decides.{nat_tests}
 use Rattle.text.specs.Digits.{decimal_in, decimal_of, hex_in, hex_of, glyph_of}
 use Rattle.text.specs.Laying.{last_in, digits_in}
 use Rattle.text.specs.Page.{Page, page, typed_one, typed}
-use Rattle.text.specs.PageLaws.{typed-sets, sets_last}
+use Rattle.text.specs.PageLaws.{typed-sets}
 use Rattle.text.specs.DigitsLaws.{decimal_last}
 
 pub length_digits : (b k n : ℕ) → length (digits_in b k n) ≡ k
@@ -15,24 +16,24 @@ length_digits b zero n = refl
 length_digits b (suc k) n = length-append (digits_in b k (n / b)) (glyph_of (n % b) ∷ []) ∙ omega (arith, length_digits b k (n / b))
 
 -- what is left to lay is one shorter, and in the end nothing
-pub digits_next : (b at i m x : ℕ) (l : List ℕ) → 0 < i → x ≡ glyph_of (m % b)
-    → sets (set l (at + (i - 1)) x) at (digits_in b (i - 1) (m / b)) ≡ sets l at (digits_in b i m)
+pub digits_next : (b i m x : ℕ) (l : List ℕ) → 0 < i → i ≤ length l → x ≡ glyph_of (m % b)
+    → digits_in b (i - 1) (m / b) ++ drop (i - 1) (set l (i - 1) x) ≡ digits_in b i m ++ drop i l
 unfolding digits_in
-digits_next b at zero m x l h e = absurd (omega (arith, h))
-digits_next b at (suc i) m x l h e =
+digits_next b zero m x l h k e = absurd (omega (arith, h))
+digits_next b (suc i) m x l h k e =
     let s : suc i - 1 ≡ i = omega arith in
-    let n : i ≡ length (digits_in b i (m / b)) = sym (length_digits b i (m / b)) in
-    ap (λ (k : ℕ). sets (set l (at + k) x) at (digits_in b k (m / b))) s
-    ∙ ap (λ (k : ℕ). sets (set l (at + k) x) at (digits_in b i (m / b))) n
-    ∙ sets_last l (digits_in b i (m / b)) at x
-    ∙ ap (λ (y : ℕ). sets l at (digits_in b i (m / b) ++ (y ∷ []))) e
+    let one : drop i (set l i x) ≡ x ∷ drop (i + 1) l = drop-set l i x (omega (arith, k)) in
+    let last : x ∷ drop (i + 1) l ≡ glyph_of (m % b) ∷ drop (suc i) l = ap (λ (y : ℕ). y ∷ drop (i + 1) l) e ∙ ap (λ (j : ℕ). glyph_of (m % b) ∷ drop j l) (add-one i) in
+    ap (λ (j : ℕ). digits_in b j (m / b) ++ drop j (set l j x)) s
+    ∙ ap (λ (t : List ℕ). digits_in b i (m / b) ++ t) (one ∙ last)
+    ∙ sym (append_assoc (digits_in b i (m / b)) (glyph_of (m % b) ∷ []) (drop (suc i) l))
 
-pub digits_laid : (b at m : ℕ) (l : List ℕ) → sets l at (digits_in b 0 m) ≡ l
+pub digits_laid : (b m : ℕ) (l : List ℕ) → digits_in b 0 m ++ drop 0 l ≡ l
 unfolding digits_in
-digits_laid b at m l = refl
+digits_laid b m l = refl
 
 -- on a page that is full nothing more is written
-typed_full : (p : Page) (w : List ℕ) → length p.bytes ≤ p.at → typed p w ≡ p
+pub typed_full : (p : Page) (w : List ℕ) → length p.bytes ≤ p.at → typed p w ≡ p
 unfolding typed_one
 typed_full p [] h = refl
 typed_full p (x ∷ w) h = simp (le-ltb p.at (length p.bytes) h) (typed_full p w h)
@@ -53,16 +54,22 @@ digits_cut p b (suc j) m h l =
     let s : suc j - 1 ≡ j = omega arith in
     rw s (typed_cut p (digits_in b j (m / b)) (glyph_of (m % b) ∷ []) (omega (arith, l, length_digits b j (m / b))))
 
-digits_none : (at b : ℕ) (d : List ℕ) (m : ℕ) → page (sets d at (digits_in b 0 m)) (at + 0) ≡ typed (page d at) (digits_in b 0 m)
-unfolding digits_in
-digits_none at b d m = ap (λ (k : ℕ). page d k) (add-zero at)
-
--- digits for which there is room
-pub digits_fit : (d : List ℕ) (at b k m : ℕ) → k ≤ length d - at → page (sets d at (digits_in b k m)) (at + k) ≡ typed (page d at) (digits_in b k m)
-digits_fit d at b zero m h = digits_none at b d m
-digits_fit d at b (suc k) m h =
-    let n = length_digits b (suc k) m in
-    sym (typed-sets (digits_in b (suc k) m) d at (omega (arith, n)) ∙ ap (λ (i : ℕ). page (sets d at (digits_in b (suc k) m)) (at + i)) n)
+-- digits laid in the part of a buffer that has room for them
+pub digits_fit : (d o : List ℕ) (at b k m : ℕ) → at + k ≤ length d → o ≡ digits_in b (length (take ((at + k) - at) (drop at d))) m
+    → page (take at d ++ (o ++ drop ((at + k) - at) (drop at d))) (at + k) ≡ typed (page d at) (digits_in b k m)
+digits_fit d o at b k m h e =
+    let w = digits_in b k m in
+    let n : length w ≡ k = length_digits b k m in
+    let fits : at + length w ≤ length d = omega (arith, h, n) in
+    let s : (at + k) - at ≡ k = omega arith in
+    let long : length (take k (drop at d)) ≡ k = omega (arith, length-take k (drop at d), length-drop at d) in
+    let all : o ≡ w = e ∙ ap (λ (j : ℕ). digits_in b (length (take j (drop at d))) m) s ∙ ap (λ (j : ℕ). digits_in b j m) long in
+    let behind : drop ((at + k) - at) (drop at d) ≡ drop (at + length w) d = ap (λ (j : ℕ). drop j (drop at d)) s ∙ drop-drop k at d ∙ ap (λ (j : ℕ). drop j d) (omega arith) in
+    ap (λ (l : List ℕ). page (take at d ++ (l ++ drop ((at + k) - at) (drop at d))) (at + k)) all
+    ∙ ap (λ (l : List ℕ). page (take at d ++ (w ++ l)) (at + k)) behind
+    ∙ ap (λ (l : List ℕ). page l (at + k)) (sym (sets-eq w d at fits ∙ append_assoc (take at d) w (drop (at + length w) d)))
+    ∙ ap (λ (i : ℕ). page (sets d at w) (at + i)) (sym n)
+    ∙ sym (typed-sets w d at fits)
 
 pub hex_digits : (k n : ℕ) → digits_in 16 k n ≡ hex_in k n
 unfolding digits_in hex_in

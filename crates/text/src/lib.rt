@@ -2,8 +2,7 @@
 // its caller.
 #![tactic(auto, using(crate::specs::PageLaws::typed_append))]
 
-ghost use Rattle.std.specs.Prelude.{◌-◌, ◌≤◌, ◌≡◌, [], ◌∷◌, length};
-ghost use Rattle.std.proofs.lemmas.List.Edits.{sets};
+ghost use Rattle.std.specs.Prelude.{◌≤◌, ◌≡◌, [], ◌∷◌, length};
 ghost use Rattle.text.specs.Lent.{Writes};
 ghost use Rattle.text.specs.Digits.{decimal_of, hex_in, hex_of};
 ghost use Rattle.text.specs.Laying.{digits_in};
@@ -39,14 +38,15 @@ impl<'a> Page<'a> {
         requires { (2 ≤ BASE) × (BASE ≤ 16) }
         ensures { Writes self.old (digits_in BASE k n) self.new }
     {
-        let room = self.buffer.len().saturating_sub(self.at);
-        let fits = k.min(room);
-        let mut rest = n;
-        for _left in (fits..k).rev() {
-            rest /= BASE;
+        if self.at < self.buffer.len() {
+            let fits = k.min(self.buffer.len() - self.at);
+            let mut rest = n;
+            for _left in (fits..k).rev() {
+                rest /= BASE;
+            }
+            lay::<BASE>(&mut self.buffer[self.at..self.at + fits], rest);
+            self.at += fits;
         }
-        lay::<BASE>(self.buffer, self.at, fits, rest);
-        self.at += fits;
     }
 
     // Without leading zeros.
@@ -58,6 +58,7 @@ impl<'a> Page<'a> {
             // a digit: no From narrows
             self.put(b'0' + n as u8);
         } else {
+            // at most 20: a u32 has no From into usize
             self.digits::<10>(n.ilog10() as usize + 1, n);
         }
     }
@@ -80,17 +81,16 @@ impl<'a> Page<'a> {
     }
 }
 
-// The last k digits of n, where there is room for them: from the last one on, a loop of stores.
-fn lay<const BASE: u64>(out: &mut [u8], at: usize, k: usize, n: u64)
-    requires base { (2 ≤ BASE) × (BASE ≤ 16) }
-    requires room { k ≤ length out.old - at }
-    ensures { out.new ≡ sets out.old at (digits_in BASE k n) }
+// The last digits of n, as many as there are places: from the last one on, a loop of stores.
+fn lay<const BASE: u64>(out: &mut [u8], n: u64)
+    requires { (2 ≤ BASE) × (BASE ≤ 16) }
+    ensures { out.new ≡ digits_in BASE (length out.old) n }
 {
     let glyphs = b"0123456789abcdef";
     let mut m = n;
-    for i in (0..k).rev() {
+    for i in (0..out.len()).rev() {
         // below 16: a u64 has no From into usize
-        out[at + i] = glyphs[(m % BASE) as usize];
+        out[i] = glyphs[(m % BASE) as usize];
         m /= BASE;
     }
 }

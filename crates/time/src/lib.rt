@@ -4,7 +4,7 @@
 #![tactic(auto)]
 
 ghost use Rattle.std.specs.Prelude.{◌≡◌, pos, ◌+ℤ◌, ◌-ℤ◌};
-ghost use Rattle.time.specs.Units.{time, in_time, time_of, time_of_words, duration, duration_of, duration_words, time_of_wire, wire_of, correction, half_of};
+ghost use Rattle.time.specs.Units.{time, in_time, time_words, time_of, time_of_words, duration, duration_of, duration_words, time_of_wire, wire_of, correction, half_of};
 
 // A time: 0 to 2^127 - 1 units, the high word first. Words with the top bit set spell a number that
 // is no time; is_time tells, and each sum of them answers by the number they spell.
@@ -54,18 +54,13 @@ impl Time {
     }
 
     // The time that a timestamp means. Its seconds are out of range where they have no place in 48 bits.
+    #[tactic(auto, unfolding(crate::specs::Units::time_of_wire, crate::specs::Units::wire))]
     pub fn of_wire(w: WireTimestamp) -> Result<Time, TimeError>
         ensures { result ≡ time_of_wire w }
     {
-        let seconds = w.seconds;
-        let nanos = w.nanos;
-        if seconds < 0x1_0000_0000_0000 {
-            // a high word is 2^32 ns: the seconds' upper bits are a whole number of them, and
-            // their lower 32 bits stay below 2^63 ns
-            let low = seconds % 0x1_0000_0000 * 1_000_000_000 + u64::from(nanos);
-            let hi = seconds / 0x1_0000_0000 * 1_000_000_000 + low / 0x1_0000_0000;
-            let lo = low % 0x1_0000_0000 * 0x1_0000_0000;
-            Ok(Time { hi, lo })
+        if w.seconds < 0x1_0000_0000_0000 {
+            let nanoseconds = u128::from(w.seconds) * 1_000_000_000 + u128::from(w.nanos);
+            Ok(Time::words(nanoseconds << 32))
         } else {
             Err(TimeError::OutOfRange)
         }
@@ -73,19 +68,21 @@ impl Time {
 
     // What is sent of this time: its timestamp, and the fraction of a nanosecond behind it, which goes into the correction
     // field, cut to 2^-16 ns. Out of range where the seconds have no place in 48 bits.
+    #[tactic(auto, unfolding(crate::specs::Units::wire_of, crate::specs::Units::time))]
     pub fn to_wire(self) -> Result<(WireTimestamp, u16), TimeError>
         ensures { result ≡ wire_of (time self) }
     {
-        let hi = self.hi;
-        let lo = self.lo;
-        // a high word is 2^32 ns, so 2^16 * 10^9 of them are 2^48 seconds
-        if hi < 65_536_000_000_000 {
-            let low = hi % 1_000_000_000 * 0x1_0000_0000 + lo / 0x1_0000_0000;
-            let seconds = hi / 1_000_000_000 * 0x1_0000_0000 + low / 1_000_000_000;
-            // these casts lose nothing either
-            let nanos = (low % 1_000_000_000) as u32;
-            let fraction = (lo % 0x1_0000_0000 / 0x1_0000) as u16;
-            Ok((WireTimestamp { seconds, nanos }, fraction))
+        let units = self.units();
+        let nanoseconds = units >> 32;
+        let seconds = nanoseconds / 1_000_000_000;
+        if seconds < 0x1_0000_0000_0000 {
+            // the casts lose nothing; try_from would be no plainer, for it has an Err that never comes
+            let w = WireTimestamp {
+                seconds: seconds as u64,
+                nanos: (nanoseconds % 1_000_000_000) as u32,
+            };
+            let fraction = (units % 0x1_0000_0000 / 0x1_0000) as u16;
+            Ok((w, fraction))
         } else {
             Err(TimeError::OutOfRange)
         }
@@ -100,32 +97,37 @@ impl Time {
         (u128::from(self.hi) << 64) + u128::from(self.lo)
     }
 
+    // The two words of so many units.
+    #[inline(always)]
+    fn words(units: u128) -> Time
+        ensures { result ≡ time_words (pos units) }
+    {
+        // the casts lose nothing; try_from would be no plainer, for it has an Err that never comes
+        Time {
+            hi: (units >> 64) as u64,
+            lo: (units % 0x1_0000_0000_0000_0000) as u64,
+        }
+    }
+
     // The time of so many units.
     #[inline(always)]
     #[tactic(auto, unfolding(crate::specs::Units::time_of, crate::specs::Units::time_of_words))]
     fn of_units(units: u128) -> Result<Time, TimeError>
         ensures { result ≡ time_of (pos units) }
     {
-        // the casts lose nothing; try_from would be no plainer, for it has an Err that never comes
-        match Time::of_words(
-            (units >> 64) as u64,
-            (units % 0x1_0000_0000_0000_0000) as u64,
-        ) {
-            Some(t) => Ok(t),
-            None => Err(TimeError::OutOfRange),
-        }
+        let t = Time::words(units);
+        Time::of_words(t.hi, t.lo).ok_or(TimeError::OutOfRange)
     }
 
-    // This time plus a correction field, which is the 64-bit word of the wire.
+    // This time plus a correction field, which is the 64-bit word of the wire. It and its twin, and the two minus, each have their own sum
+    // in their clause.
     #[inline(always)]
     #[tactic(auto, using(crate::proofs::Machine::time_fits, crate::proofs::Machine::time_off))]
     pub fn plus_correction(self, c: u64) -> Result<Time, TimeError>
         ensures { result ≡ time_of (time self +ℤ correction c) }
     {
-        match self.units().checked_add_signed(correction_units(c)) {
-            Some(units) => Time::of_units(units),
-            None => Err(TimeError::OutOfRange),
-        }
+        let sum = self.units().checked_add_signed(correction_units(c));
+        Time::of_units(sum.ok_or(TimeError::OutOfRange)?)
     }
 
     // This time less a correction field.
@@ -134,10 +136,8 @@ impl Time {
     pub fn minus_correction(self, c: u64) -> Result<Time, TimeError>
         ensures { result ≡ time_of (time self -ℤ correction c) }
     {
-        match self.units().checked_sub_signed(correction_units(c)) {
-            Some(units) => Time::of_units(units),
-            None => Err(TimeError::OutOfRange),
-        }
+        let difference = self.units().checked_sub_signed(correction_units(c));
+        Time::of_units(difference.ok_or(TimeError::OutOfRange)?)
     }
 
     // This time less t.
@@ -146,10 +146,8 @@ impl Time {
     pub fn minus(self, t: Time) -> Result<Duration, TimeError>
         ensures { result ≡ duration_of (time self -ℤ time t) }
     {
-        match self.units().checked_signed_diff(t.units()) {
-            Some(units) => Ok(Duration::of_units(units)),
-            None => Err(TimeError::OutOfRange),
-        }
+        let difference = self.units().checked_signed_diff(t.units());
+        Ok(Duration::of_units(difference.ok_or(TimeError::OutOfRange)?))
     }
 }
 
@@ -183,10 +181,8 @@ impl Duration {
     pub fn minus(self, d: Duration) -> Result<Duration, TimeError>
         ensures { result ≡ duration_of (duration self -ℤ duration d) }
     {
-        match self.units().checked_sub(d.units()) {
-            Some(units) => Ok(Duration::of_units(units)),
-            None => Err(TimeError::OutOfRange),
-        }
+        let difference = self.units().checked_sub(d.units());
+        Ok(Duration::of_units(difference.ok_or(TimeError::OutOfRange)?))
     }
 
     // Half of this, an odd unit dropped towards zero.

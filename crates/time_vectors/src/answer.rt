@@ -54,32 +54,20 @@ impl From<Duration> for Answer {
     }
 }
 
-impl From<Result<Time, TimeError>> for Answer {
-    fn from(answer: Result<Time, TimeError>) -> Answer {
+impl<T: Into<Answer>> From<Result<T, TimeError>> for Answer {
+    fn from(answer: Result<T, TimeError>) -> Answer {
         match answer {
-            Ok(t) => Answer::from(t),
+            Ok(value) => value.into(),
             Err(_) => Answer::Number(7),
         }
     }
 }
 
-impl From<Result<Duration, TimeError>> for Answer {
-    fn from(answer: Result<Duration, TimeError>) -> Answer {
-        match answer {
-            Ok(d) => Answer::from(d),
-            Err(_) => Answer::Number(7),
-        }
-    }
-}
-
-impl From<Result<(WireTimestamp, u16), TimeError>> for Answer {
-    fn from(answer: Result<(WireTimestamp, u16), TimeError>) -> Answer {
-        match answer {
-            Ok((timestamp, fraction)) => Answer::Wire {
-                timestamp,
-                fraction,
-            },
-            Err(_) => Answer::Number(7),
+impl From<(WireTimestamp, u16)> for Answer {
+    fn from((timestamp, fraction): (WireTimestamp, u16)) -> Answer {
+        Answer::Wire {
+            timestamp,
+            fraction,
         }
     }
 }

@@ -1,12 +1,14 @@
 -- Laws of the timers: what a log interval's byte stands for, that 2 ^ n seconds are whole nanoseconds, that no draw gives an exact half, and that the delay timer is the one whole number less than half a nanosecond away.
 use Rattle.std.specs.Prelude.{◌≡◌, refl, true, false, ℕ, suc, ◌+◌, ◌-◌, ◌*◌, ◌/◌, ◌%◌, ◌^◌, ◌<◌, ◌≤◌, leb, ltb, ℤ, pos, negsuc, nat_abs, ◌-ℤ◌, Ok, Err}
-use Rattle.std.proofs.Common.{sym, ap, ◌∙◌, arith, mod-lt, div-add-mod', mul-div_cancel, mul_assoc, mul-le-mul_right, pow-add, pow_pos, leb-true}
+use Rattle.std.specs.Int.{w8, cast_signed}
+use native.Mathlib.Nat.{mul-div-mul_right}
+use Rattle.std.proofs.Common.{mul_comm, lit<, sym, ap, ◌∙◌, arith, lt-ltb, le-ltb, mod-lt, div-add-mod', mul-div_cancel, mul_assoc, mul-le-mul_right, pow-add, pow_pos, leb-true}
 use Rattle.std.proofs.Math.Bool.{and-true}
 use Rattle.std.proofs.Math.Decide.{dec_lt}
 use Rattle.std.proofs.Math.Dec.{leb-suc-suc}
 use Rattle.timers.specs.Timers.{interval, in_interval, in_draw, sync_timer, to_nearest, odd_of, delay_timer, sync_timer_of, delay_timer_of}
 use Rattle.time.specs.Laws.{signed_low, signed_high}
-use Rattle.time.specs.Lemmas.Integers.{sub_ge, sub_lt, pos_minus}
+use Rattle.time.specs.Lemmas.Integers.{not_below, sub_ge, sub_lt, pos_minus}
 use Rattle.timers.specs.TimerLaws.{Near}
 use Rattle.timers.specs.declared.TimerError.{TimerError}
 
@@ -145,3 +147,23 @@ delay_out byte k h = simp h
 pub draw_out : (byte k : ℕ) → in_interval (interval byte) ≡ true → in_draw k ≡ false → delay_timer_of byte k ≡ Err TimerError.Draw
 unfolding delay_timer_of
 draw_out byte k h d = simp (h, d)
+
+-- a byte in two's complement, as Rust casts it
+pub interval_is_cast : (n : ℕ) → n < 2 ^ 8 → interval n ≡ cast_signed w8 n
+interval_is_cast n h = go (dec_lt n 128)
+  where
+    go : Dec (n < 128) → interval n ≡ cast_signed w8 n
+    go (yes p) = interval_low n p ∙ sym (simp (lt-ltb n 128 p))
+    go (no p) = interval_high n (not_below n 128 p) h ∙ sym (simp (le-ltb n 128 (not_below n 128 p)))
+
+-- half of an even divisor, added before it divides, is the whole number nearest
+pub nearest_half : (a s : ℕ) → to_nearest a (2 ^ (s + 35)) ≡ (a + 2 ^ (s + 34)) / 2 ^ (s + 35)
+nearest_half a s =
+    let twice : 2 ^ (s + 35) ≡ 2 * 2 ^ (s + 34) = ap (λ (x : ℕ). 2 ^ x) {x = s + 35} {y = 1 + (s + 34)} (omega arith) ∙ pow-add 2 1 (s + 34) in
+    ap (λ (d : ℕ). (2 * a + d) / (2 * 2 ^ (s + 35))) twice
+    ∙ ap (λ (x : ℕ). x / (2 * 2 ^ (s + 35))) {x = 2 * a + 2 * 2 ^ (s + 34)} {y = (a + 2 ^ (s + 34)) * 2} (omega arith)
+    ∙ ap (λ (x : ℕ). (a + 2 ^ (s + 34)) * 2 / x) (mul_comm 2 (2 ^ (s + 35)))
+    ∙ mul-div-mul_right {m = 2} (a + 2 ^ (s + 34)) (2 ^ (s + 35)) (lit< tt)
+
+pub product_small : (k : ℕ) → k < 2 ^ 52 → (2 * k + 1) * 1000000000 < 2 ^ 83
+product_small k h = omega arith

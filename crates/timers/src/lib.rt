@@ -13,10 +13,12 @@ pub enum TimerError {
 }
 
 // Whether a log interval is within -9 to 16.
+#[tactic(auto, using(crate::proofs::TimerLaws::interval_is_cast), unfolding(crate::specs::Timers::in_interval))]
 pub fn is_interval(n: u8) -> bool
     ensures { result ≡ in_interval (interval n) }
 {
-    if n < 128 { n <= 16 } else { 247 <= n }
+    let n = n.cast_signed();
+    (-9 <= n) & (n <= 16)
 }
 
 // Whether a draw is below 2^52.
@@ -27,15 +29,12 @@ pub fn is_draw(k: u64) -> bool
 }
 
 // 17 less the log interval.
+#[tactic(auto, using(crate::proofs::TimerLaws::interval_is_cast), unfolding(crate::specs::Timers::in_interval))]
 fn shift_of(n: u8) -> u64
     requires { in_interval (interval n) ≡ true }
     ensures { (result + 35 ≡ nat_abs (pos 52 -ℤ interval n)) × (1 ≤ result) × (result ≤ 26) }
 {
-    if n < 128 {
-        17 - u64::from(n)
-    } else {
-        273 - u64::from(n)
-    }
+    u64::from((17 - n.cast_signed()).unsigned_abs())
 }
 
 // The sync timer: 2^n seconds.
@@ -53,16 +52,17 @@ pub fn sync_timer(n: u8) -> Result<u64, TimerError>
 }
 
 // The delay timer by a shift that is 17 less the log interval.
+#[tactic(auto, using(crate::proofs::TimerLaws::nearest_half, crate::proofs::TimerLaws::product_small))]
 fn drawn(k: u64, shift: u64) -> u64
     requires { (k < 2 ^ 52) × (1 ≤ shift) × (shift ≤ 26) }
     ensures { result ≡ to_nearest (odd_of k * 10 ^ 9) (2 ^ (shift + 35)) }
 {
-    let odd = 2 * k + 1;
-    // odd * 5^9 / 2^26: the product itself has no place in 64 bits
-    let scaled = odd / 0x800_0000 * 3_906_250 + odd % 0x800_0000 * 1_953_125 / 0x400_0000;
-    let half = 1 << (shift - 1);
-    let raised = scaled + half;
-    raised >> shift
+    // the product has 83 bits
+    let product = u128::from(2 * k + 1) * 1_000_000_000;
+    let half = 1u128 << (shift + 34);
+    let timer = (product + half) >> (shift + 35);
+    // below 2^48
+    timer as u64
 }
 
 // The delay timer for the draw k: (2 k + 1) * 10^9 * 2^(n - 52), to the nearest.

@@ -4,7 +4,7 @@ ghost use Rattle.std.specs.Prelude.{◌<◌, ◌≤◌};
 use crate::chance::Chance;
 use crate::events::{Happening, What};
 use crate::says;
-use crate::says::Said;
+use crate::says::{Said, Type};
 use port::Running;
 use record::{Answer, Context, FilterUpdate};
 use time::{Duration, Time, WireTimestamp};
@@ -85,26 +85,31 @@ fn header(said: Said, t: MessageType, c: Chance) -> Header {
     }
 }
 
-// The message in the first bytes of a buffer, and how many it has: a buffer of the room that a port's has.
+// The message in the first bytes of a buffer, and how many it has: a buffer of the room that a port's has. An Announce is written
+// as a Sync and then given its number.
 fn spelled(said: Said, c: Chance) -> ([u8; 64], usize) {
     let mut bytes = [0u8; 64];
     let stamp = timestamp(c);
-    let behind = questions::body_of(said.number, stamp, said.requester);
-    let front = header(said, behind.message_type(), c.next().next());
+    let message_type = match said.message_type {
+        Type::Table(t) => t,
+        Type::Announce => MessageType::Sync,
+    };
+    let behind = questions::body_of(message_type.number(), stamp, said.requester);
+    let front = header(said, message_type, c.next().next());
     // 64 bytes take each of these, and the header is made for its body
     let _ = writing::write(&mut bytes, front, behind);
-    if said.number == 11 {
+    if let Type::Announce = said.message_type {
         bytes[0] = says::MAJOR * 16 + 11;
     }
     (bytes, usize::from(front.length))
 }
 
-// Messages of types 0 to 3 come by the event entry, the others by either.
+// Event messages come by the event entry, the others by either.
 fn hear(running: Running, said: Said, c: Chance, packet: &mut [u8]) -> Answer {
     let (bytes, length) = spelled(said, c);
     let lent = said.cut.unwrap_or(length);
     let message = &bytes[..lent.min(64)];
-    if said.number < 8 || c.below(4) == 0 {
+    if said.message_type.is_event() || c.below(4) == 0 {
         running.handle_event_receive(time(c.next()), message, packet)
     } else {
         running.handle_general_receive(message, packet)

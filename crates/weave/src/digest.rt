@@ -152,12 +152,12 @@ impl Fold for Action {
     }
 }
 
-fn measured_kind(m: Option<Measurement>) -> Option<Exchange> {
+// The exchange at whose end m is measured.
+fn measured_kind(m: Measurement) -> Exchange {
     match m {
-        None => None,
-        Some(Measurement::Sync { .. }) => Some(Exchange::Sync),
-        Some(Measurement::Delay { .. }) => Some(Exchange::Delay),
-        Some(Measurement::Peer { .. }) => Some(Exchange::Peer),
+        Measurement::Sync { .. } => Exchange::Sync,
+        Measurement::Delay { .. } => Exchange::Delay,
+        Measurement::Peer { .. } => Exchange::Peer,
     }
 }
 
@@ -182,7 +182,7 @@ impl Told {
         let acted = sent.with(a.count).with(first.action).with(second.action);
         Told {
             outcome: a.outcome,
-            kind: measured_kind(a.measurement),
+            kind: a.measurement.map(measured_kind),
             measured,
             all: acted.with(a.reset),
         }

@@ -19,6 +19,7 @@ pub struct Counts {
 }
 
 impl Counts {
+    // A match on the few cases that there are, as in add_measured: no step is chosen by it.
     fn add_part(&mut self, part: Part) {
         match part {
             Part::Opening(_) => {}
@@ -88,7 +89,7 @@ impl Ran {
             self.measured = self.measured.with(told.measured);
         }
         let answer = event.what.answer();
-        if told.outcome.number() != answer.number() || told.kind != event.part.measures() {
+        if told.outcome != answer || told.kind != event.part.measures() {
             self.wrong = self.wrong.wrapping_add(1);
         }
     }

@@ -1,6 +1,7 @@
 // Who speaks to the port, and what is said: all of a message but its times and its correction.
 use record::Outcome;
-use wire::Identity;
+use wire::MessageType::{DelayResp, FollowUp, PDelayReq, PDelayResp, PDelayRespFollowUp, Sync};
+use wire::{Identity, MessageType};
 
 pub(crate) const DOMAIN: u8 = 5;
 
@@ -57,11 +58,32 @@ pub enum Message {
     Announce,
 }
 
-// A message, but for its times and its correction. Type 11 is written as a Sync and then given its number. Where cut says so, only
-// so many bytes of it are lent to the port.
+// A message's type: one of document 01's table, or an Announce, which is the host's.
+#[derive(Clone, Copy)]
+pub enum Type {
+    Table(MessageType),
+    Announce,
+}
+
+impl Type {
+    // Of the messages that come by the event entry, types 0 to 3.
+    pub(crate) fn is_event(self) -> bool {
+        matches!(
+            self,
+            Type::Table(
+                MessageType::Sync
+                    | MessageType::DelayReq
+                    | MessageType::PDelayReq
+                    | MessageType::PDelayResp
+            )
+        )
+    }
+}
+
+// A message, but for its times and its correction. Where cut says so, only so many bytes of it are lent to the port.
 #[derive(Clone, Copy)]
 pub struct Said {
-    pub number: u8,
+    pub message_type: Type,
     pub flags: u16,
     pub domain: u8,
     pub id: u16,
@@ -72,9 +94,9 @@ pub struct Said {
 
 impl Said {
     // A message of one step in our domain; one that answers a request answers ours.
-    fn new(number: u8, source: Identity, id: u16) -> Said {
+    fn new(message_type: MessageType, source: Identity, id: u16) -> Said {
         Said {
-            number,
+            message_type: Type::Table(message_type),
             flags: 0,
             domain: DOMAIN,
             id,
@@ -99,6 +121,11 @@ impl Said {
         self
     }
 
+    fn as_announce(mut self) -> Said {
+        self.message_type = Type::Announce;
+        self
+    }
+
     fn cut_to(mut self, bytes: usize) -> Said {
         self.cut = Some(bytes);
         self
@@ -108,28 +135,32 @@ impl Said {
 impl Message {
     pub(crate) fn said(self, id: u16) -> Said {
         match self {
-            Message::Sync => Said::new(0, MASTER, id),
-            Message::SyncTwoStep => Said::new(0, MASTER, id).in_two_steps(),
-            Message::FollowUp => Said::new(8, MASTER, id),
-            Message::DelayResp => Said::new(9, MASTER, id),
-            Message::PDelayResp => Said::new(3, PEER, id),
-            Message::PDelayRespTwoStep => Said::new(3, PEER, id).in_two_steps(),
-            Message::PDelayRespFollowUp => Said::new(10, PEER, id),
-            Message::StrangersSyncTwoStep => Said::new(0, STRANGER, id).in_two_steps(),
-            Message::StrangersSync => Said::new(0, STRANGER, id),
-            Message::StrangersFollowUp => Said::new(8, STRANGER, id),
-            Message::StrangersDelayResp => Said::new(9, STRANGER, id),
-            Message::StrangersPDelayReq => Said::new(2, STRANGER, id),
-            Message::DelayRespToStranger => Said::new(9, MASTER, id).to_stranger(),
+            Message::Sync => Said::new(Sync, MASTER, id),
+            Message::SyncTwoStep => Said::new(Sync, MASTER, id).in_two_steps(),
+            Message::FollowUp => Said::new(FollowUp, MASTER, id),
+            Message::DelayResp => Said::new(DelayResp, MASTER, id),
+            Message::PDelayResp => Said::new(PDelayResp, PEER, id),
+            Message::PDelayRespTwoStep => Said::new(PDelayResp, PEER, id).in_two_steps(),
+            Message::PDelayRespFollowUp => Said::new(PDelayRespFollowUp, PEER, id),
+            Message::StrangersSyncTwoStep => Said::new(Sync, STRANGER, id).in_two_steps(),
+            Message::StrangersSync => Said::new(Sync, STRANGER, id),
+            Message::StrangersFollowUp => Said::new(FollowUp, STRANGER, id),
+            Message::StrangersDelayResp => Said::new(DelayResp, STRANGER, id),
+            Message::StrangersPDelayReq => Said::new(PDelayReq, STRANGER, id),
+            Message::DelayRespToStranger => Said::new(DelayResp, MASTER, id).to_stranger(),
             Message::PDelayRespTwoStepToStranger => {
-                Said::new(3, PEER, id).in_two_steps().to_stranger()
+                Said::new(PDelayResp, PEER, id).in_two_steps().to_stranger()
             }
-            Message::PDelayRespToStranger => Said::new(3, PEER, id).to_stranger(),
-            Message::PDelayRespFollowUpToStranger => Said::new(10, PEER, id).to_stranger(),
-            Message::SyncOneByte => Said::new(0, MASTER, id).cut_to(1),
-            Message::SyncCut => Said::new(0, MASTER, id).cut_to(43),
-            Message::SyncOfOtherDomain => Said::new(0, MASTER, id).of_other_domain(),
-            Message::Announce => Said::new(11, MASTER, id),
+            Message::PDelayRespToStranger => Said::new(PDelayResp, PEER, id).to_stranger(),
+            Message::PDelayRespFollowUpToStranger => Said::new(
+                PDelayRespFollowUp,
+                PEER,
+                id,
+            ).to_stranger(),
+            Message::SyncOneByte => Said::new(Sync, MASTER, id).cut_to(1),
+            Message::SyncCut => Said::new(Sync, MASTER, id).cut_to(43),
+            Message::SyncOfOtherDomain => Said::new(Sync, MASTER, id).of_other_domain(),
+            Message::Announce => Said::new(Sync, MASTER, id).as_announce(),
         }
     }
 

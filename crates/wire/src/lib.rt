@@ -19,6 +19,7 @@ pub struct Identity {
 #[derive(Clone, Copy)]
 pub struct Header {
     pub major_sdo: u8,
+    // four bits as they stand in the message, and no enum, since any can stand there: written_reads is over all of them
     pub kind: u8,
     pub minor: u8,
     pub version: u8,
@@ -81,7 +82,7 @@ pub enum Body {
     },
 }
 
-// What lies behind the timestamp that each body begins with.
+// What lies behind the timestamp that each body begins with: one of three shapes, and so no Option.
 #[derive(Clone, Copy)]
 pub enum Rest {
     Nothing,

@@ -33,9 +33,7 @@ impl Header {
     pub fn sdo_id(self) -> u16
         ensures { result ≡ sdo_id self }
     {
-        let high = u16::from(self.major_sdo);
-        let low = u16::from(self.minor_sdo);
-        high * 256 + low
+        u16::from_be_bytes([self.major_sdo, self.minor_sdo])
     }
 
     // Whether the time of this message follows in another.
@@ -48,7 +46,7 @@ impl Header {
 }
 
 impl MessageType {
-    // The number in the low half of byte 0.
+    // The number in the low half of byte 0, as the table's row has it: the layout of a header names it.
     pub fn number(self) -> u8
         ensures { result ≡ (row self).number }
     {

@@ -43,6 +43,7 @@ pub(crate) enum Question {
 #[derive(Clone, Copy)]
 pub(crate) struct Sending {
     pub(crate) request: Header,
+    // a byte of the question, which asks for the numbers of no type too
     pub(crate) number: u8,
     pub(crate) sender: Sender,
     pub(crate) id: u16,

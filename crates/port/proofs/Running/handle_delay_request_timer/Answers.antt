@@ -1,13 +1,13 @@
 use Rattle.rules.specs.Events.{delay_timer}
 use Rattle.rules.specs.Table.{row3}
 use Rattle.rules.specs.Step.{rule_of}
-use Rattle.port.specs.EntryLaws.{handed, shut}
+use Rattle.port.specs.EntryLaws.{sent, shut}
 use Rattle.port.proofs.Running.handle_delay_request_timer.Goals as goal
 
 pub returns-in-Ok : goal.returns-in-Ok
 unfolding rule_of row3
 returns-in-Ok c =
-    handed _ (delay_timer _) _ _ _ c.draw_out-draw_out.ensures c.gate.ensures.0 c.in-Ok.is c.gate.ensures.1 tt tt _ c.send_delay_request.ensures _ _ c.answered.ensures.0 c.answered.ensures.1
+    sent _ (delay_timer _) _ _ _ c.draw_out-draw_out.ensures c.gate.ensures.0 _ c.in-Ok.is c.send_delay_request.ensures c.gate.ensures.1 tt tt _ _ c.answered.ensures.0 c.answered.ensures.1
 
 pub returns-in-Err : goal.returns-in-Err
 unfolding rule_of row3

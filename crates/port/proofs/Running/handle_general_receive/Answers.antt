@@ -2,13 +2,13 @@ use Rattle.std.proofs.Common.{refl}
 use Rattle.rules.specs.Events.{general}
 use Rattle.rules.specs.Table.{row3}
 use Rattle.rules.specs.Step.{rule_of}
-use Rattle.port.specs.EntryLaws.{handed, shut}
+use Rattle.port.specs.EntryLaws.{sent, shut}
 use Rattle.port.proofs.Running.handle_general_receive.Goals as goal
 
 pub returns-in-Ok : goal.returns-in-Ok
 unfolding rule_of row3
 returns-in-Ok c =
-    handed _ (general _) _ _ _ refl c.gate.ensures.0 c.in-Ok.is c.gate.ensures.1 tt (λ i. (c.shared_slice_known-1.given i).fits) _ c.on_general.ensures _ _ c.answered.ensures.0 c.answered.ensures.1
+    sent _ (general _) _ _ _ refl c.gate.ensures.0 _ c.in-Ok.is c.on_general.ensures c.gate.ensures.1 tt (λ i. (c.shared_slice_known-1.given i).fits) _ _ c.answered.ensures.0 c.answered.ensures.1
 
 pub returns-in-Err : goal.returns-in-Err
 unfolding rule_of row3

@@ -2,13 +2,13 @@ use Rattle.std.proofs.Common.{refl}
 use Rattle.rules.specs.Events.{set_state}
 use Rattle.rules.specs.Table.{row3}
 use Rattle.rules.specs.Step.{rule_of}
-use Rattle.port.specs.EntryLaws.{handed, shut}
+use Rattle.port.specs.EntryLaws.{sent, shut}
 use Rattle.port.proofs.Running.set_state.Goals as goal
 
 pub returns-in-Ok : goal.returns-in-Ok
 unfolding rule_of row3
 returns-in-Ok c =
-    handed _ (set_state _) _ _ _ refl c.gate.ensures.0 c.in-Ok.is c.gate.ensures.1 tt tt _ c.on_state.ensures _ _ c.answered.ensures.0 c.answered.ensures.1
+    sent _ (set_state _) _ _ _ refl c.gate.ensures.0 _ c.in-Ok.is c.on_state.ensures c.gate.ensures.1 tt tt _ _ c.answered.ensures.0 c.answered.ensures.1
 
 pub returns-in-Err : goal.returns-in-Err
 unfolding rule_of row3

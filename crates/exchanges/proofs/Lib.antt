@@ -1,0 +1,2 @@
+-- A lemma that several proofs of functions cite.
+mod Laws

@@ -1,0 +1,3 @@
+-- Laws of what is measured and of `settle`, by what is found on the way.
+mod MeasureLaws
+mod ExtractLaws
