@@ -112,18 +112,18 @@ there_is None e = absurd (apart (cc e))
 there_is (Some p) e = refl
 
 -- the front is asked for by that answer
-pub front_asked : {o : Option Port} {b : Bool} {x : Next} {u : List ℕ} {last : Bool} → is_some o ≡ not b → x ≡ front_of b u last → x ≡ front_of (is_none o) u last
-front_asked {o = o} {b = b} {u = u} {last = last} asked is = is ∙ ap (λ (f : Bool). front_of f u last) (due_is o b asked)
+pub front_asked : (o : Option Port) (b : Bool) (x : Next) (u : List ℕ) (last : Bool) → is_some o ≡ not b → x ≡ front_of b u last → x ≡ front_of (is_none o) u last
+front_asked o b x u last asked is = is ∙ ap (λ (f : Bool). front_of f u last) (due_is o b asked)
 
 -- a port that is held is the one that the laws are about
 port_is : (q : State) (port : Port) → q.port ≡ Some port → port ≡ port_in q
 port_is q port e = sym (ap (λ (o : Option Port). port_in (record { port = o; number = q.number; offset = q.offset })) e)
 
-pub held_answers : (q : State) {port : Port} {e : Event} {l l' : List ℕ} {a : Answer} → q.port ≡ Some port → Answers port e l a l' → Answers (port_in q) e l a l'
-held_answers q {port = port} {e = e} {l = l} {l' = l'} {a = a} held = subst (λ (z : Port). Answers z e l a l') (port_is q port held)
+pub held_answers : (q : State) (port : Port) → q.port ≡ Some port → (e : Event) (l : List ℕ) (a : Answer) (l' : List ℕ) → Answers port e l a l' → Answers (port_in q) e l a l'
+held_answers q port held e l a l' = subst (λ (z : Port). Answers z e l a l') (port_is q port held)
 
-pub held_end : (style : Style) (q : State) {port : Port} {d d' : List ℕ} {to k : ℕ} → q.port ≡ Some port → Wrote d to (last_line style port) d' k → Wrote d to (last_line style (port_in q)) d' k
-held_end style q {port = port} {d = d} {d' = d'} {to = to} {k = k} held = subst (λ (z : Port). Wrote d to (last_line style z) d' k) (port_is q port held)
+pub held_end : (q : State) (port : Port) → q.port ≡ Some port → (style : Style) (d : List ℕ) (to : ℕ) (d' : List ℕ) (k : ℕ) → Wrote d to (last_line style port) d' k → Wrote d to (last_line style (port_in q)) d' k
+held_end q port held style d to d' k = subst (λ (z : Port). Wrote d to (last_line style z) d' k) (port_is q port held)
 
 module _ (style : Style) (q : State) (s : List ℕ) (i : ℕ) (last : Bool) (d : List ℕ) (to : ℕ) (x : Next) (inside : i ≤ length s) (is : x ≡ front_of (due q) (take (length s - i) (drop i s)) last) where
   at_place : front_of (due q) (drop i s) last ≡ x
