@@ -21,7 +21,7 @@ pub struct Row {
 }
 
 impl Row {
-    ghost use Rattle.std.specs.Prelude.{◌≡◌, ◌+◌, ◌<◌, [], ◌∷◌, ◌++◌, remove, slice_index_or};
+    ghost use Rattle.std.specs.Prelude.{◌≡◌, ◌+◌, ◌<◌, [], ◌∷◌, ◌++◌, length, remove, slice_index_or};
     ghost use Rattle.weave.specs.Row.{happenings};
 
     pub(crate) fn new() -> Row
@@ -35,7 +35,8 @@ impl Row {
     }
 
     pub(crate) fn as_slice(&self) -> &[Happening]
-        ensures { result.now ≡ happenings self.now }
+        ensures value { result.now ≡ happenings self.now }
+        ensures count { length result.now ≡ self.now.count }
     {
         &self.places[..self.count]
     }
