@@ -1,7 +1,7 @@
 // The two orders in which a block is run.
 ghost use Rattle.std.specs.Prelude.{◌≡◌, ◌≤◌, [], IsPermutation};
 ghost use Rattle.weave.specs.Row.{happenings};
-ghost use Rattle.weave.specs.Gathering.{gathered_of};
+ghost use Rattle.weave.specs.Gathering.{IsGathered, gathered_of};
 
 use crate::events::{Exchange, Happening, Part};
 use crate::making::Block;
@@ -30,6 +30,7 @@ pub(crate) fn woven(block: &Block) -> Row
 // out at once.
 pub(crate) fn gathered(given: &Row) -> Row
     ensures value { happenings result ≡ gathered_of (happenings given.now) [] [] }
+    ensures each_once { IsGathered (happenings given.now) (happenings result) }
     ensures count { result.count ≤ given.now.count }
 {
     let mut order = Row::new();

@@ -6,5 +6,5 @@ use Rattle.weave.proofs.order.gathered.Given as goal
 abbrev pub invariant-loop-event : goal.invariant-loop-event
 invariant-loop-event l = record {
   count : l.order.count + l.syncs.count + l.request.count ≡ l.event-index;
-  value : happenings l.order ++ gathered_of (drop l.event-index l.event-items) (happenings l.syncs) (happenings l.request) ≡ gathered_of l.event-items [] []
+  value : happenings l.order ++ gathered_of (drop l.event-index l.event-items) (happenings l.syncs) (happenings l.request) ≡ gathered_of l.event-items [] [];
 }

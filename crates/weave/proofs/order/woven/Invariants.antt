@@ -6,5 +6,5 @@ abbrev pub invariant-loop : goal.invariant-loop
 invariant-loop l = record {
   left : l.counter + l.left.count ≡ l.block.events.count;
   placed : l.order.count ≡ l.counter;
-  same : IsPermutation (happenings l.block.events) (happenings l.order ++ happenings l.left)
+  same : IsPermutation (happenings l.block.events) (happenings l.order ++ happenings l.left);
 }

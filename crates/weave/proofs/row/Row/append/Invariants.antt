@@ -5,5 +5,5 @@ use Rattle.weave.proofs.row.Row.append.Given as goal
 abbrev pub invariant-loop-event : goal.invariant-loop-event
 invariant-loop-event l = record {
   count : l.self.count ≡ l.initial.self.count + l.event-index;
-  value : happenings l.self ≡ happenings l.initial.self ++ take l.event-index l.event-items
+  value : happenings l.self ≡ happenings l.initial.self ++ take l.event-index l.event-items;
 }
