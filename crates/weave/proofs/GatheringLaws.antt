@@ -4,7 +4,6 @@ use Rattle.std.proofs.lemmas.List.{append_assoc, append-nil}
 use Rattle.std.proofs.lemmas.List.Elements.{All-append, All-push, All-nil}
 use Rattle.std.proofs.lemmas.List.Sorted.{IsPermutation-refl, IsPermutation-sym, IsPermutation-trans, IsPermutation-cons, IsPermutation-middle, IsPermutation-append_left, IsPermutation-append_right, IsPermutation-append_comm}
 use Rattle.weave.specs.Gathering.{gathered_from, gathered_of, IsOpening, IsGathered}
-use Rattle.weave.specs.declared.events.Exchange.{Exchange}
 use Rattle.weave.specs.declared.events.Exchange.TheVariants.{Sync, Delay, Peer}
 use Rattle.weave.specs.declared.events.Happening.{Happening}
 use Rattle.weave.specs.declared.events.Part.{Part}

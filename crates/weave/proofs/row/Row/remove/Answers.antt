@@ -1,5 +1,5 @@
 -- `remove`: what lies behind the event moves up by one place.
-use Rattle.std.proofs.Common.{◌≡◌, ℕ, ◌+◌, ◌-◌, ◌<◌, ◌≤◌, suc, List, ◌++◌, length, take, drop, ap, ◌∙◌, sym, arith, rules, remove, refl, add-one}
+use Rattle.std.proofs.Common.{◌≡◌, ℕ, ◌+◌, ◌-◌, ◌≤◌, suc, List, length, take, drop, arith, rules, remove, add-one}
 use Rattle.std.proofs.lemmas.List.{take-take, drop-take, length-drop}
 use Rattle.std.proofs.lemmas.List.Edits.{take-paste}
 use Rattle.std.specs.List.{copy_within}
