@@ -1,4 +1,4 @@
--- The gathered order. To be believed: `IsGathered`, which says what may not be lost. `gathered_of` says the order itself.
+-- The gathered order: which it is, and that it loses nothing.
 use Rattle.std.specs.Prelude.{◌≡◌, List, [], ◌∷◌, ◌++◌, All, IsPermutation}
 use Rattle.weave.specs.declared.events.Exchange.{Exchange}
 use Rattle.weave.specs.declared.events.Exchange.TheVariants.{Sync, Delay, Peer}
@@ -27,7 +27,7 @@ gathered_of (event ∷ events) syncs request = gathered_from event.part event sy
 abbrev pub IsOpening : Happening → Type 0
 IsOpening event = (exchange : Exchange) × (event.part ≡ Opening exchange)
 
--- Each event comes out once, but for some that open an exchange, whose end hasn't come: these wait.
+-- each event comes out once, but for some that open an exchange, whose end has not come: these wait
 pub record IsGathered (given order : List Happening) : Type 0 where
   pub waiting : List Happening
   pub each_once : IsPermutation given (order ++ waiting)
