@@ -183,7 +183,7 @@ impl Block {
     // One to three sync exchanges.
     fn add_syncs(&mut self, id: u16)
         requires { self.old.events.count + 6 ≤ 24 }
-        ensures { self.new.events.count ≤ self.old.events.count + 6 }
+        ensures { (self.old.events.count ≤ self.new.events.count) × (self.new.events.count ≤ self.old.events.count + 6) }
     {
         let more = self.chance.next().below(3);
         for _ in 0..more + 1 {
@@ -195,7 +195,7 @@ impl Block {
     // The request that the port is set up for, under the id that it will take, and what answers it.
     fn add_request(&mut self, mechanism: Mechanism, id: u16)
         requires { self.old.events.count + 4 ≤ 24 }
-        ensures { self.new.events.count ≤ self.old.events.count + 4 }
+        ensures { (self.old.events.count ≤ self.new.events.count) × (self.new.events.count ≤ self.old.events.count + 4) }
     {
         match mechanism {
             Mechanism::EndToEnd => self.add_exchange(Exchange::Delay, id, delay_plan(self.chance)),
@@ -206,7 +206,7 @@ impl Block {
     // Up to twelve events that no exchange of ours is part of.
     fn add_others(&mut self, id: u16)
         requires { self.old.events.count + 12 ≤ 24 }
-        ensures { self.new.events.count ≤ self.old.events.count + 12 }
+        ensures { (self.old.events.count ≤ self.new.events.count) × (self.new.events.count ≤ self.old.events.count + 12) }
     {
         let n = self.chance.next().below(13);
         for _ in 0..n {
