@@ -118,3 +118,10 @@ hex_of_append (x ∷ a) b = ap (λ (l : List ℕ). hex_in 2 x ++ l) (hex_of_appe
 pub hex_of_more : (s : List ℕ) (i : ℕ) → i < length s → hex_of (take (i + 1) s) ≡ hex_of (take i s) ++ hex_in 2 (get_or s i 0)
 unfolding hex_of
 hex_of_more s i h = rw (add-one, take-suc s i 0 h, hex_of_append, append-nil) refl
+
+-- a byte has two digits
+pub hex_two : (x : ℕ) → x < 256 → hex_in 2 x ≡ glyph_of (x / 16) ∷ (glyph_of (x % 16) ∷ [])
+unfolding hex_in
+hex_two x h =
+    let high : x / 16 % 16 ≡ x / 16 = omega arith in
+    ap (λ (d : ℕ). glyph_of d ∷ (glyph_of (x % 16) ∷ [])) high

@@ -2,9 +2,9 @@
 // its caller.
 #![tactic(auto, using(crate::specs::PageLaws::typed_append))]
 
-ghost use Rattle.std.specs.Prelude.{◌≤◌, ◌≡◌, [], ◌∷◌, length};
+ghost use Rattle.std.specs.Prelude.{◌≤◌, ◌<◌, ◌≡◌, [], ◌∷◌, length};
 ghost use Rattle.text.specs.Lent.{Writes};
-ghost use Rattle.text.specs.Digits.{decimal_of, hex_in, hex_of};
+ghost use Rattle.text.specs.Digits.{decimal_of, glyph_of, hex_in, hex_of};
 ghost use Rattle.text.specs.Laying.{digits_in};
 
 // A lent buffer, and the place where the next byte goes.
@@ -15,6 +15,7 @@ pub struct Page<'a> {
 }
 
 impl<'a> Page<'a> {
+    #[inline(always)]
     #[tactic(auto, unfolding(crate::specs::Page::typed_one))]
     pub fn put(&mut self, x: u8)
         ensures { Writes self.old (x ∷ []) self.new }
@@ -76,7 +77,9 @@ impl<'a> Page<'a> {
         ensures { Writes self.old (hex_of s.now) self.new }
     {
         for byte in s {
-            self.hex(2, u64::from(*byte));
+            let n = usize::from(*byte);
+            self.put(glyph(n / 16));
+            self.put(glyph(n % 16));
         }
     }
 }
@@ -86,11 +89,21 @@ fn lay<const BASE: u64>(out: &mut [u8], n: u64)
     requires { (2 ≤ BASE) × (BASE ≤ 16) }
     ensures { out.new ≡ digits_in BASE (length out.old) n }
 {
-    let glyphs = b"0123456789abcdef";
     let mut m = n;
     for i in (0..out.len()).rev() {
         // below 16: a u64 has no From into usize
-        out[i] = glyphs[(m % BASE) as usize];
+        out[i] = glyph((m % BASE) as usize);
         m /= BASE;
     }
+}
+
+// A digit, by a table.
+#[inline(always)]
+#[tactic(auto, using(crate::specs::DigitsLaws::looked_up))]
+fn glyph(d: usize) -> u8
+    requires { d < 16 }
+    ensures { result ≡ glyph_of d }
+{
+    let glyphs = b"0123456789abcdef";
+    glyphs[d]
 }
