@@ -76,11 +76,14 @@ impl<'a> Page<'a> {
     pub fn bytes(&mut self, s: &[u8])
         ensures { Writes self.old (hex_of s.now) self.new }
     {
+        // a page of the loop's own, whose place stays out of the memory that it stores to
+        let mut page = Page { buffer: self.buffer, at: self.at };
         for byte in s {
             let n = usize::from(*byte);
-            self.put(glyph(n / 16));
-            self.put(glyph(n % 16));
+            page.put(glyph(n / 16));
+            page.put(glyph(n % 16));
         }
+        self.at = page.at;
     }
 }
 
