@@ -29,9 +29,15 @@ impl<'a> Page<'a> {
     pub fn copy(&mut self, s: &[u8])
         ensures { Writes self.old s.now self.new }
     {
+        // a page of the loop's own, whose place stays out of the memory that it stores to
+        let mut page = Page {
+            buffer: self.buffer,
+            at: self.at,
+        };
         for byte in s {
-            self.put(*byte);
+            page.put(*byte);
         }
+        self.at = page.at;
     }
 
     // The last k digits of n. Those that have no room are left out.
@@ -76,8 +82,10 @@ impl<'a> Page<'a> {
     pub fn bytes(&mut self, s: &[u8])
         ensures { Writes self.old (hex_of s.now) self.new }
     {
-        // a page of the loop's own, whose place stays out of the memory that it stores to
-        let mut page = Page { buffer: self.buffer, at: self.at };
+        let mut page = Page {
+            buffer: self.buffer,
+            at: self.at,
+        };
         for byte in s {
             let n = usize::from(*byte);
             page.put(glyph(n / 16));
