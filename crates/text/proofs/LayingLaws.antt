@@ -7,7 +7,7 @@ use Rattle.std.proofs.lemmas.Bool.Decides.{nat_tests}
 use Rattle.text.specs.Digits.{decimal_in, decimal_of, hex_in, hex_of, glyph_of}
 use Rattle.text.specs.Laying.{last_in, digits_in}
 use Rattle.text.specs.Page.{Page, page, typed_one, typed}
-use Rattle.text.specs.PageLaws.{typed-sets}
+use Rattle.text.specs.PageLaws.{typed-sets, wrote_byte, wrote_then}
 use Rattle.text.specs.DigitsLaws.{decimal_last}
 
 pub length_digits : (b k n : ℕ) → length (digits_in b k n) ≡ k
@@ -125,3 +125,10 @@ unfolding hex_in
 hex_two x h =
     let high : x / 16 % 16 ≡ x / 16 = omega arith in
     ap (λ (d : ℕ). glyph_of d ∷ (glyph_of (x % 16) ∷ [])) high
+
+-- two bytes that both have room
+pub typed_two : (d : List ℕ) (at x y : ℕ) → at + 1 < length d → page (set (set d at x) (at + 1) y) (at + 2) ≡ typed (page d at) (x ∷ (y ∷ []))
+typed_two d at x y h =
+    let first = wrote_byte d at x (omega arith) in
+    let second = wrote_byte (set d at x) (at + 1) y (omega (arith, length-set d at x)) in
+    ap (λ (k : ℕ). page (set (set d at x) (at + 1) y) k) (omega arith) ∙ (wrote_then first second).text

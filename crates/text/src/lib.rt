@@ -29,7 +29,7 @@ impl<'a> Page<'a> {
     pub fn copy(&mut self, s: &[u8])
         ensures { Writes self.old s.now self.new }
     {
-        // a page of the loop's own, whose place stays out of the memory that it stores to
+        // a page of the loop's own, whose place stays out of the memory that the loop stores to
         let mut page = Page {
             buffer: self.buffer,
             at: self.at,
@@ -38,6 +38,22 @@ impl<'a> Page<'a> {
             page.put(*byte);
         }
         self.at = page.at;
+    }
+
+    // Two bytes, by one test where both have room.
+    #[inline(always)]
+    #[tactic(auto, using(crate::proofs::LayingLaws::typed_two))]
+    fn pair(&mut self, x: u8, y: u8)
+        ensures { Writes self.old (x ∷ (y ∷ [])) self.new }
+    {
+        if self.at < self.buffer.len().saturating_sub(1) {
+            self.buffer[self.at] = x;
+            self.buffer[self.at + 1] = y;
+            self.at += 2;
+        } else {
+            self.put(x);
+            self.put(y);
+        }
     }
 
     // The last k digits of n. Those that have no room are left out.
@@ -82,14 +98,14 @@ impl<'a> Page<'a> {
     pub fn bytes(&mut self, s: &[u8])
         ensures { Writes self.old (hex_of s.now) self.new }
     {
+        // as in copy
         let mut page = Page {
             buffer: self.buffer,
             at: self.at,
         };
         for byte in s {
             let n = usize::from(*byte);
-            page.put(glyph(n / 16));
-            page.put(glyph(n % 16));
+            page.pair(glyph(n / 16), glyph(n % 16));
         }
         self.at = page.at;
     }
