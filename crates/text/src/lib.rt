@@ -15,7 +15,6 @@ pub struct Page<'a> {
 }
 
 impl<'a> Page<'a> {
-    #[inline(always)]
     #[tactic(auto, unfolding(crate::specs::Page::typed_one))]
     pub fn put(&mut self, x: u8)
         ensures { Writes self.old (x ∷ []) self.new }
