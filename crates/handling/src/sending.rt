@@ -5,7 +5,7 @@ ghost use Rattle.handling.specs.Sending.{length_left, buffer_left};
 use sent::Message;
 
 // How many bytes are sent; told where nothing is. What cannot be written is not sent and leaves the buffer as it is; behind
-// the port's gate there is no such message. An entry hands over the message alone and not its answer, which would be
+// the port's gate there is no such message. What is handed over is the message alone and not the answer, which would be
 // copied on the way in and out.
 #[tactic(auto, unfolding(crate::specs::Sending::length_left, crate::specs::Sending::buffer_left, writing::specs::Writing::left_of))]
 pub fn send(packet: &mut [u8], message: Option<Message>, told: usize) -> usize

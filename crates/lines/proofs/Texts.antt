@@ -1,15 +1,19 @@
 -- Equations of texts that do not hold by computation alone.
 use Prim.Native.Nat.{ℕ, zero, suc}
 use mathlib.Core.Path.{◌≡◌, refl, sym, ◌∙◌, ap}
-use mathlib.Core.List.{List, [], ◌∷◌, ◌++◌, append_assoc}
+use mathlib.Core.List.{List, [], ◌∷◌, ◌++◌, append_assoc, append-nil}
 use native.Mathlib.Omega.{arith}
 use lib.ListN.{length, get_or}
 use Rattle.record.specs.declared.Todo.{Todo}
 use Rattle.record.specs.Answers.{first_actions}
-use Rattle.text.specs.Page.{Page, typed}
-use Rattle.text.specs.PageLaws.{typed_append}
+use Rattle.text.specs.Page.{Wrote, Page, typed}
+use Rattle.text.specs.PageLaws.{wrote_as, typed_append}
 use Rattle.text.specs.Digits.{hex_of}
 use Rattle.lines.specs.Lines.{following, joined_by, dash, sent_text}
+
+-- nothing stands behind the last text
+pub wrote_end : {d : List ℕ} {at : ℕ} {w e : List ℕ} {k : ℕ} → Wrote d at w e k → Wrote d at (w ++ []) e k
+wrote_end {w = w} p = wrote_as (sym (append-nil w)) p
 
 pub behind_append : (mark : ℕ) (xs ys : List (List ℕ)) → following mark xs ++ following mark ys ≡ following mark (xs ++ ys)
 behind_append mark [] ys = refl
@@ -18,6 +22,10 @@ behind_append mark (x ∷ xs) ys =
 
 pub joined_append : (mark : ℕ) (x : List ℕ) (xs ys : List (List ℕ)) → joined_by mark x xs ++ following mark ys ≡ joined_by mark x (xs ++ ys)
 joined_append mark x xs ys = append_assoc x (following mark xs) (following mark ys) ∙ ap (λ (l : List ℕ). x ++ l) (behind_append mark xs ys)
+
+-- texts in three parts
+pub behind_three : (mark : ℕ) (xs ys zs : List (List ℕ)) → following mark xs ++ (following mark ys ++ following mark zs) ≡ following mark (xs ++ (ys ++ zs))
+behind_three mark xs ys zs = ap (λ (l : List ℕ). following mark xs ++ l) (behind_append mark ys zs) ∙ behind_append mark xs (ys ++ zs)
 
 -- texts in two parts
 pub typed_following : (p : Page) (mark : ℕ) (xs ys : List (List ℕ)) → typed p (following mark (xs ++ ys)) ≡ typed (typed p (following mark xs)) (following mark ys)

@@ -1,9 +1,9 @@
-// Which exchange has all its times.
+// Which exchange has all its times, and what of the record is a Slave's.
 ghost use Rattle.std.specs.Prelude.{◌≡◌};
-ghost use Rattle.measurement.specs.Taking.{pair_of, peer_times_of};
+ghost use Rattle.measurement.specs.Taking.{pair_of, peer_times_of, slave_in};
 
 use crate::PeerTimes;
-use record::{Exchange, PeerState};
+use record::{Exchange, PeerState, PortState, SlaveState};
 use time::Time;
 
 // The send and the receive time of an exchange that has both.
@@ -41,6 +41,18 @@ pub(crate) fn peer_times(peer: PeerState) -> Option<PeerTimes>
             response_send,
             response_receive,
         }),
+        _ => None,
+    }
+}
+
+// A Slave's part of the record; None in any other state.
+#[inline(always)]
+#[tactic(auto, unfolding(crate::specs::Taking::slave_in))]
+pub fn as_slave(state: PortState) -> Option<SlaveState>
+    ensures { result ≡ slave_in state }
+{
+    match state {
+        PortState::Slave(s) => Some(s),
         _ => None,
     }
 }

@@ -21,7 +21,8 @@ abbrev pub reading : Result Flow Error → Result Flow Trouble
 reading (Ok g) = Ok g
 reading (Err e) = Err (Trouble.Reading e)
 
--- the flow f with the window w goes over into r with w': the unread bytes to the front, and a read into all that is behind them
+-- the flow f with the window w goes over into r with w': the unread bytes to the front, and a read into all that is behind them. What it answered
+-- nobody can say, but where the reader's bytes are known
 pub record Kept (f : Flow) (w : List ℕ) (r : Result Flow Trouble) (w' : List ℕ) : Type 0 where
   pub got : Result ℕ Error
   pub came : r ≡ reading (came_of (front_of f) got (length w - (front_of f).have))
@@ -58,7 +59,8 @@ Last style n f w d (Err (Trouble.Reading e)) w' d' = Turns style f w d (Err (Tro
 Last style n f w d (Err (Trouble.Writing e)) w' d' = Turns style f w d (Err (Trouble.Writing e)) w' d'
 Last style n f w d (Err Trouble.Endless) w' d' = (n ≡ 2 ^ 64 - 1) × (w' ≡ w) × (d' ≡ d)
 
--- the loop ends where a turn says so, and not before: all is well exactly if the last turn met the log's end and its lines were written
+-- the loop ends where a turn says so, and not before: on Ok the last turn met the log's end, and on Err it failed so. Whether a turn's lines were written and
+-- what a read answered stays open, so another turn that fails and leaves the same window and buffer may stand in place of the last one
 pub record Pumped (style : Style) (w₀ d₀ w d : List ℕ) (r : Result ⊤ Trouble) : Type 0 where
   pub turns : ℕ
   pub left : Flow

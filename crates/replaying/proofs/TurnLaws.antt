@@ -52,7 +52,23 @@ going_start style q s last d = (
   },
 )
 
+-- the measure of the loop
+pub one_ahead : (style : Style) (s : List ℕ) (last : Bool) (d : List ℕ) (p : State) (i to : ℕ) (d' : List ℕ) (x : Option Stop) (p' : State) (j k : ℕ) → Field style p s i last d to d' p' j k x → x ≡ None → (i < j) × (j ≤ length s)
+one_ahead style s last d p i to d' x p' j k o e = by (subst (Field style p s i last d to d' p' j k) e o)
+  where
+    by : Field style p s i last d to d' p' j k None → (i < j) × (j ≤ length s)
+    by (n, v, b) = (b.ahead, b.within)
+
 module _ (style : Style) (q : State) (s : List ℕ) (last : Bool) (d d₁ : List ℕ) (p : State) (i to : ℕ) where
+  pub going_place : Going style q s last d d₁ p i to → to ≤ length d₁
+  going_place (w, g) = omega (arith, g.place, g.room, g.same)
+
+  pub going_read : Going style q s last d d₁ p i to → i ≤ length s
+  going_read (w, g) = g.read
+
+  pub going_same : Going style q s last d d₁ p i to → length d₁ ≡ length d
+  going_same (w, g) = g.same
+
   -- how much more was written, and where it ends
   ends_at : (w v d₂ : List ℕ) (k : ℕ) → Goes style q s last d d₁ p i to w → Wrote d₁ to v d₂ k → length v ≤ line_room → to + line_room ≤ length d₁ → (length (w ++ v) ≤ length d) × (k ≡ length (w ++ v)) × (d₂ ≡ (w ++ v) ++ drop (length (w ++ v)) d)
   ends_at w v d₂ k g o short h =
@@ -60,24 +76,27 @@ module _ (style : Style) (q : State) (s : List ℕ) (last : Bool) (d d₁ : List
       let (e, b) = wrote_first (wrote_then g.wrote o) fits in
       (fits, e, b)
 
-  going_on : (d₂ : List ℕ) (p' : State) (j k : ℕ) → Going style q s last d d₁ p i to → Field style p s i last d₁ to d₂ p' j k None → to + line_room ≤ length d₁ → Going style q s last d d₂ p' j k
-  going_on d₂ p' j k (w, g) (n, v, b) h =
-      let (fits, at_end, _) = ends_at w v d₂ k g b.wrote b.short h in (
-        w ++ v,
-        record {
-          run = λ at.
-              g.run at
-              ∙ ap (after w i) (b.run at (length d - length w) (omega (arith, g.place, g.same, h)))
-              ∙ after-after w i v n (run_of style p' (length d - length w - length v) (scan last (due p') (at + j) (drop j s)))
-              ∙ ap (λ (m : ℕ). after (w ++ v) m (run_of style p' (length d - length w - length v) (scan last (due p') (at + j) (drop j s)))) (sym b.place)
-              ∙ ap (λ (m : ℕ). after (w ++ v) j (run_of style p' m (scan last (due p') (at + j) (drop j s)))) (omega (arith, length-append w v));
-          wrote = wrote_then g.wrote b.wrote;
-          place = at_end;
-          room = fits;
-          read = b.within;
-          same = wrote_same b.wrote ∙ g.same;
-        },
-      )
+  pub going_on : (d₂ : List ℕ) (x : Option Stop) (p' : State) (j k : ℕ) → Going style q s last d d₁ p i to → Field style p s i last d₁ to d₂ p' j k x → x ≡ None → to + line_room ≤ length d₁ → Going style q s last d d₂ p' j k
+  going_on d₂ x p' j k (w, g) o e h = on (subst (Field style p s i last d₁ to d₂ p' j k) e o)
+    where
+      on : Field style p s i last d₁ to d₂ p' j k None → Going style q s last d d₂ p' j k
+      on (n, v, b) =
+          let (fits, at_end, _) = ends_at w v d₂ k g b.wrote b.short h in (
+            w ++ v,
+            record {
+              run = λ at.
+                  g.run at
+                  ∙ ap (after w i) (b.run at (length d - length w) (omega (arith, g.place, g.same, h)))
+                  ∙ after-after w i v n (run_of style p' (length d - length w - length v) (scan last (due p') (at + j) (drop j s)))
+                  ∙ ap (λ (m : ℕ). after (w ++ v) m (run_of style p' (length d - length w - length v) (scan last (due p') (at + j) (drop j s)))) (sym b.place)
+                  ∙ ap (λ (m : ℕ). after (w ++ v) j (run_of style p' m (scan last (due p') (at + j) (drop j s)))) (omega (arith, length-append w v));
+              wrote = wrote_then g.wrote b.wrote;
+              place = at_end;
+              room = fits;
+              read = b.within;
+              same = wrote_same b.wrote ∙ g.same;
+            },
+          )
 
   -- ---- the turn's end
 
@@ -90,14 +109,17 @@ module _ (style : Style) (q : State) (s : List ℕ) (last : Bool) (d d₁ : List
         b ∙ sym (ap (λ (y : Run). y.bytes ++ drop (length y.bytes) d) x),
       )
 
-  going_stop : (d₂ : List ℕ) (why : Stop) (p' : State) (j k : ℕ) → Going style q s last d d₁ p i to → Field style p s i last d₁ to d₂ p' j k (Some why) → to + line_room ≤ length d₁ → Turned style q s last d (record { state = p'; read = j; wrote = k; stop = why }) d₂
-  going_stop d₂ why p' j k (w, g) (e, f, (v, b)) h =
-      let (_, at_end, left) = ends_at w v d₂ k g b.wrote b.short h in
-      subst (λ (z : State). Turned style q s last d (record { state = z; read = j; wrote = k; stop = why }) d₂) (sym e)
-      (subst (λ (z : ℕ). Turned style q s last d (record { state = p; read = z; wrote = k; stop = why }) d₂) (sym f)
-      (turned w v d₂ why k (λ at. g.run at ∙ ap (after w i) (b.run at (length d - length w) (omega (arith, g.place, g.same, h)))) at_end left))
+  pub going_stop : (d₂ : List ℕ) (x : Option Stop) (why : Stop) (p' : State) (j k : ℕ) → Going style q s last d d₁ p i to → Field style p s i last d₁ to d₂ p' j k x → x ≡ Some why → to + line_room ≤ length d₁ → Turned style q s last d (record { state = p'; read = j; wrote = k; stop = why }) d₂
+  going_stop d₂ x why p' j k (w, g) o e h = by (subst (Field style p s i last d₁ to d₂ p' j k) e o)
+    where
+      by : Field style p s i last d₁ to d₂ p' j k (Some why) → Turned style q s last d (record { state = p'; read = j; wrote = k; stop = why }) d₂
+      by (same, still, (v, b)) =
+          let (_, at_end, left) = ends_at w v d₂ k g b.wrote b.short h in
+          subst (λ (z : State). Turned style q s last d (record { state = z; read = j; wrote = k; stop = why }) d₂) (sym same)
+          (subst (λ (z : ℕ). Turned style q s last d (record { state = p; read = z; wrote = k; stop = why }) d₂) (sym still)
+          (turned w v d₂ why k (λ at. g.run at ∙ ap (after w i) (b.run at (length d - length w) (omega (arith, g.place, g.same, h)))) at_end left))
 
-  going_full : Going style q s last d d₁ p i to → length d₁ - to < line_room → Turned style q s last d (record { state = p; read = i; wrote = to; stop = Stop.Full }) d₁
+  pub going_full : Going style q s last d d₁ p i to → length d₁ - to < line_room → Turned style q s last d (record { state = p; read = i; wrote = to; stop = Stop.Full }) d₁
   going_full (w, g) h =
       let (e, b) = wrote_first g.wrote g.room in
       turned w [] d₁ Stop.Full to
@@ -107,12 +129,15 @@ module _ (style : Style) (q : State) (s : List ℕ) (last : Bool) (d d₁ : List
 
   -- ---- what the caller goes on with
 
-  stop_leaves : (d₂ : List ℕ) (why : Stop) (p' : State) (j k : ℕ) → Going style q s last d d₁ p i to → Field style p s i last d₁ to d₂ p' j k (Some why) → to + line_room ≤ length d₁ → Leaves (length s) (length d) (record { state = p'; read = j; wrote = k; stop = why })
-  stop_leaves d₂ why p' j k (w, g) (e, f, (v, b)) h =
-      let (fits, at_end, _) = ends_at w v d₂ k g b.wrote b.short h in
-      record { read = omega (arith, f, g.read); wrote = omega (arith, fits, at_end); small = λ m. omega (arith, f, b.small m) }
+  pub stop_leaves : (d₂ : List ℕ) (x : Option Stop) (why : Stop) (p' : State) (j k : ℕ) → Going style q s last d d₁ p i to → Field style p s i last d₁ to d₂ p' j k x → x ≡ Some why → to + line_room ≤ length d₁ → Leaves (length s) (length d) (record { state = p'; read = j; wrote = k; stop = why })
+  stop_leaves d₂ x why p' j k (w, g) o e h = by (subst (Field style p s i last d₁ to d₂ p' j k) e o)
+    where
+      by : Field style p s i last d₁ to d₂ p' j k (Some why) → Leaves (length s) (length d) (record { state = p'; read = j; wrote = k; stop = why })
+      by (_, still, (v, b)) =
+          let (fits, at_end, _) = ends_at w v d₂ k g b.wrote b.short h in
+          record { read = omega (arith, still, g.read); wrote = omega (arith, fits, at_end); small = λ m. omega (arith, still, b.small m) }
 
-  full_leaves : Going style q s last d d₁ p i to → Leaves (length s) (length d) (record { state = p; read = i; wrote = to; stop = Stop.Full })
+  pub full_leaves : Going style q s last d d₁ p i to → Leaves (length s) (length d) (record { state = p; read = i; wrote = to; stop = Stop.Full })
   full_leaves (w, g) = record { read = g.read; wrote = omega (arith, g.place, g.room); small = λ m. absurd (apart (cc m)) }
 
 -- ---- a turn, as the code has it
@@ -126,13 +151,13 @@ Ends style q s last d r d' = Turned style q s last d r d' × Leaves (length s) (
 
 module _ (style : Style) (q : State) (s : List ℕ) (last : Bool) (d d₁ : List ℕ) (t : Turn) (u : Underway style q s last d t d₁) where
   pub under_place : t.wrote ≤ length d₁
-  under_place = let (w, g) = u.going in omega (arith, g.place, g.room, g.same)
+  under_place = going_place style q s last d d₁ t.state t.read t.wrote u.going
 
   pub under_read : t.read ≤ length t.s.now
-  under_read = let (w, g) = u.going in omega (arith, g.read, ap length u.same_window)
+  under_read = omega (arith, going_read style q s last d d₁ t.state t.read t.wrote u.going, ap length u.same_window)
 
   pub under_same : length d₁ ≡ length d
-  under_same = let (w, g) = u.going in g.same
+  under_same = going_same style q s last d d₁ t.state t.read t.wrote u.going
 
   module _ (d₂ : List ℕ) (t' : Turn) where
     field_at : (r : Option Stop) → One t d₁ t' d₂ r → Field style t.state s t.read last d₁ t.wrote d₂ t'.state t'.read t'.wrote r
@@ -143,7 +168,7 @@ module _ (style : Style) (q : State) (s : List ℕ) (last : Bool) (d d₁ : List
 
     -- the measure of the loop
     pub under_ahead : One t d₁ t' d₂ None → (t.read < t'.read) × (t'.read ≤ length s)
-    under_ahead o = let (n, v, b) = field_at None o in (b.ahead, b.within)
+    under_ahead o = one_ahead style s last d₁ t.state t.read t.wrote d₂ None t'.state t'.read t'.wrote (field_at None o) refl
 
     pub under_on : One t d₁ t' d₂ None → t.wrote + line_room ≤ length d₁ → Underway style q s last d t' d₂
     under_on o h =
@@ -151,14 +176,14 @@ module _ (style : Style) (q : State) (s : List ℕ) (last : Bool) (d d₁ : List
           same_style = o.style ∙ u.same_style;
           same_window = o.window ∙ u.same_window;
           same_last = o.last ∙ u.same_last;
-          going = going_on style q s last d d₁ t.state t.read t.wrote d₂ t'.state t'.read t'.wrote u.going (field_at None o) h;
+          going = going_on style q s last d d₁ t.state t.read t.wrote d₂ None t'.state t'.read t'.wrote u.going (field_at None o) refl h;
         }
 
     pub under_stops : (why : Stop) (r : TurnEnd) → One t d₁ t' d₂ (Some why) → t.wrote + line_room ≤ length d₁ → r ≡ ended t' why → Ends style q s last d r d₂
     under_stops why r o h e =
         subst (λ (z : TurnEnd). Ends style q s last d z d₂) (sym e) (
-          going_stop style q s last d d₁ t.state t.read t.wrote d₂ why t'.state t'.read t'.wrote u.going (field_at (Some why) o) h,
-          stop_leaves style q s last d d₁ t.state t.read t.wrote d₂ why t'.state t'.read t'.wrote u.going (field_at (Some why) o) h,
+          going_stop style q s last d d₁ t.state t.read t.wrote d₂ (Some why) why t'.state t'.read t'.wrote u.going (field_at (Some why) o) refl h,
+          stop_leaves style q s last d d₁ t.state t.read t.wrote d₂ (Some why) why t'.state t'.read t'.wrote u.going (field_at (Some why) o) refl h,
         )
 
   pub under_full : (r : TurnEnd) → length d₁ - t.wrote < line_room → r ≡ ended t Stop.Full → Ends style q s last d r d₁

@@ -111,29 +111,23 @@ there_is : {A : Type 0} (o : Option A) → is_none o ≡ false → IsSome o
 there_is None e = absurd (apart (cc e))
 there_is (Some p) e = refl
 
-module _ (t : Turn) (d : List ℕ) (x : Next) (b : Bool) (asked : is_some t.state.port ≡ not b) (inside : t.read ≤ length t.s.now) (is : x ≡ front_of b (take (length t.s.now - t.read) (drop t.read t.s.now)) t.last) where
-  abbrev style : Style
-  style = t.style
+-- the front is asked for by that answer
+pub front_asked : (o : Option Port) (b : Bool) (x : Next) (u : List ℕ) (last : Bool) → is_some o ≡ not b → x ≡ front_of b u last → x ≡ front_of (is_none o) u last
+front_asked o b x u last asked is = is ∙ ap (λ (f : Bool). front_of f u last) (due_is o b asked)
 
-  abbrev q : State
-  q = t.state
+-- a port that is held is the one that the laws are about
+port_is : (q : State) (port : Port) → q.port ≡ Some port → port ≡ port_in q
+port_is q port e = sym (ap (λ (o : Option Port). port_in (record { port = o; number = q.number; offset = q.offset })) e)
 
-  abbrev s : List ℕ
-  s = t.s.now
+pub held_answers : (q : State) (port : Port) → q.port ≡ Some port → (e : Event) (l : List ℕ) (a : Answer) (l' : List ℕ) → Answers port e l a l' → Answers (port_in q) e l a l'
+held_answers q port held e l a l' = subst (λ (z : Port). Answers z e l a l') (port_is q port held)
 
-  abbrev i : ℕ
-  i = t.read
+pub held_end : (q : State) (port : Port) → q.port ≡ Some port → (style : Style) (d : List ℕ) (to : ℕ) (d' : List ℕ) (k : ℕ) → Wrote d to (last_line style port) d' k → Wrote d to (last_line style (port_in q)) d' k
+held_end q port held style d to d' k = subst (λ (z : Port). Wrote d to (last_line style z) d' k) (port_is q port held)
 
-  abbrev last : Bool
-  last = t.last
-
-  abbrev to : ℕ
-  to = t.wrote
-
+module _ (style : Style) (q : State) (s : List ℕ) (i : ℕ) (last : Bool) (d : List ℕ) (to : ℕ) (x : Next) (inside : i ≤ length s) (is : x ≡ front_of (due q) (take (length s - i) (drop i s)) last) where
   at_place : front_of (due q) (drop i s) last ≡ x
-  at_place =
-      ap (λ (u : List ℕ). front_of (due q) u last) (sym (part_all s i))
-      ∙ sym (is ∙ ap (λ (f : Bool). front_of f (take (length s - i) (drop i s)) last) (due_is q.port b asked))
+  at_place = ap (λ (u : List ℕ). front_of (due q) u last) (sym (part_all s i)) ∙ sym is
 
   known : Front (due q) (drop i s) last x
   known = subst (Front (due q) (drop i s) last) at_place (front (due q) (drop i s) last)
@@ -144,9 +138,6 @@ module _ (t : Turn) (d : List ℕ) (x : Next) (b : Bool) (asked : is_some t.stat
 
   pub end_ported : x ≡ Next.End → IsSome q.port
   end_ported p = there_is q.port (subst (Front (due q) (drop i s) last) p known).0.1
-
-  port_is : (port : Port) → q.port ≡ Some port → port ≡ port_in q
-  port_is port e = sym (ap (λ (o : Option Port). port_in (record { port = o; number = q.number; offset = q.offset })) e)
 
   scanned : (at : ℕ) (y : Next) → x ≡ y → scan last (due q) (at + i) (drop i s) ≡ onward y (at + i) (due q) (drop i s) (λ n. scan last false (at + i + n) (drop n (drop i s)))
   scanned at y e = scan_at last (due q) (at + i) (drop i s) y (at_place ∙ e)
@@ -189,19 +180,20 @@ module _ (t : Turn) (d : List ℕ) (x : Next) (b : Bool) (asked : is_some t.stat
   abbrev field_of : ℕ → List ℕ
   field_of n = take n (take (length s - i) (drop i s))
 
+  -- whatever is told of them is told of the log's
+  pub same_event : {A : Type 0} (told : List ℕ → A) (n : ℕ) → told (field_of n) ≡ told (take n (drop i s))
+  same_event told n = ap (λ (u : List ℕ). told (take n u)) (part_all s i)
+
   pub field_length : (e : Event) (n : ℕ) → x ≡ Next.Event e n → n ≡ length (field_of n)
   field_length e n p =
       let (_, b) = event_fits e n p in
       sym (length-take-le n (take (length s - i) (drop i s)) (omega (arith, b, ap length (part_all s i), length-drop i s)))
 
   pub field_placed : (e : Event) (n : ℕ) → x ≡ Next.Event e n → Placed (field_of n) e
-  field_placed e n p = subst (λ (u : List ℕ). Placed (take n u) e) (sym (part_all s i)) (event_placed e n p)
+  field_placed e n p = subst (λ (u : List ℕ). Placed u e) (sym (same_event (λ (u : List ℕ). u) n)) (event_placed e n p)
 
   -- l is the packet buffer before, and l' after; the packet is what was answered to be sent
-  module _ (e : Event) (n : ℕ) (p : x ≡ Next.Event e n) (port : Port) (held : q.port ≡ Some port) (a : Answer) (l l' : List ℕ) (big : length l ≡ 128) (answered : Answers port e l a l') where
-    answers : Answers (port_in q) e l a l'
-    answers = subst (λ (z : Port). Answers z e l a l') (port_is port held) answered
-
+  module _ (e : Event) (n : ℕ) (p : x ≡ Next.Event e n) (a : Answer) (l l' : List ℕ) (big : length l ≡ 128) (answers : Answers (port_in q) e l a l') where
     abbrev result : Answered
     result = answer_to (port_in q) e
 
@@ -259,15 +251,15 @@ module _ (t : Turn) (d : List ℕ) (x : Next) (b : Bool) (asked : is_some t.stat
     ),
   )
 
-  pub one_end : (d' : List ℕ) (k : ℕ) (port : Port) → q.port ≡ Some port → x ≡ Next.End → Wrote d to (last_line style port) d' k → Field style q s i last d to d' q i k (Some Stop.Done)
-  one_end d' k port held e w = (
+  pub one_end : (d' : List ℕ) (k : ℕ) → x ≡ Next.End → Wrote d to (last_line style (port_in q)) d' k → Field style q s i last d to d' q i k (Some Stop.Done)
+  one_end d' k e w = (
     refl,
     refl,
     (
       last_line style (port_in q),
       record {
         run = λ at room h. ap (run_of style q room) (scanned at Next.End e) ∙ run_good style q room h;
-        wrote = subst (λ (z : Port). Wrote d to (last_line style z) d' k) (port_is port held) w;
+        wrote = w;
         short = omega (arith, last_short style (port_in q));
         small = λ m. absurd (apart (cc m));
       },

@@ -7,7 +7,7 @@ use Rattle.std.proofs.lemmas.Bool.Decides.{nat_tests}
 use Rattle.text.specs.Digits.{decimal_in, decimal_of, hex_in, hex_of, glyph_of}
 use Rattle.text.specs.Laying.{last_in, digits_in}
 use Rattle.text.specs.Page.{Page, page, typed_one, typed}
-use Rattle.text.specs.PageLaws.{typed-sets}
+use Rattle.text.specs.PageLaws.{typed-sets, wrote_byte, wrote_then}
 use Rattle.text.specs.DigitsLaws.{decimal_last}
 
 pub length_digits : (b k n : ℕ) → length (digits_in b k n) ≡ k
@@ -118,3 +118,17 @@ hex_of_append (x ∷ a) b = ap (λ (l : List ℕ). hex_in 2 x ++ l) (hex_of_appe
 pub hex_of_more : (s : List ℕ) (i : ℕ) → i < length s → hex_of (take (i + 1) s) ≡ hex_of (take i s) ++ hex_in 2 (get_or s i 0)
 unfolding hex_of
 hex_of_more s i h = rw (add-one, take-suc s i 0 h, hex_of_append, append-nil) refl
+
+-- a byte has two digits
+pub hex_two : (x : ℕ) → x < 256 → hex_in 2 x ≡ glyph_of (x / 16) ∷ (glyph_of (x % 16) ∷ [])
+unfolding hex_in
+hex_two x h =
+    let high : x / 16 % 16 ≡ x / 16 = omega arith in
+    ap (λ (d : ℕ). glyph_of d ∷ (glyph_of (x % 16) ∷ [])) high
+
+-- two bytes that both have room
+pub typed_two : (d : List ℕ) (at x y : ℕ) → at + 1 < length d → page (set (set d at x) (at + 1) y) (at + 2) ≡ typed (page d at) (x ∷ (y ∷ []))
+typed_two d at x y h =
+    let first = wrote_byte d at x (omega arith) in
+    let second = wrote_byte (set d at x) (at + 1) y (omega (arith, length-set d at x)) in
+    ap (λ (k : ℕ). page (set (set d at x) (at + 1) y) k) (omega arith) ∙ (wrote_then first second).text

@@ -2,9 +2,9 @@
 // its caller.
 #![tactic(auto, using(crate::specs::PageLaws::typed_append))]
 
-ghost use Rattle.std.specs.Prelude.{◌≤◌, ◌≡◌, [], ◌∷◌, length};
+ghost use Rattle.std.specs.Prelude.{◌≤◌, ◌<◌, ◌≡◌, [], ◌∷◌, length};
 ghost use Rattle.text.specs.Lent.{Writes};
-ghost use Rattle.text.specs.Digits.{decimal_of, hex_in, hex_of};
+ghost use Rattle.text.specs.Digits.{decimal_of, glyph_of, hex_in, hex_of};
 ghost use Rattle.text.specs.Laying.{digits_in};
 
 // A lent buffer, and the place where the next byte goes.
@@ -28,8 +28,30 @@ impl<'a> Page<'a> {
     pub fn copy(&mut self, s: &[u8])
         ensures { Writes self.old s.now self.new }
     {
+        // a page of the loop's own, whose place stays out of the memory that the loop stores to
+        let mut page = Page {
+            buffer: self.buffer,
+            at: self.at,
+        };
         for byte in s {
-            self.put(*byte);
+            page.put(*byte);
+        }
+        self.at = page.at;
+    }
+
+    // Two bytes, by one test where both have room.
+    #[inline(always)]
+    #[tactic(auto, using(crate::proofs::LayingLaws::typed_two))]
+    fn pair(&mut self, x: u8, y: u8)
+        ensures { Writes self.old (x ∷ (y ∷ [])) self.new }
+    {
+        if self.at < self.buffer.len().saturating_sub(1) {
+            self.buffer[self.at] = x;
+            self.buffer[self.at + 1] = y;
+            self.at += 2;
+        } else {
+            self.put(x);
+            self.put(y);
         }
     }
 
@@ -75,9 +97,16 @@ impl<'a> Page<'a> {
     pub fn bytes(&mut self, s: &[u8])
         ensures { Writes self.old (hex_of s.now) self.new }
     {
+        // as in copy
+        let mut page = Page {
+            buffer: self.buffer,
+            at: self.at,
+        };
         for byte in s {
-            self.hex(2, u64::from(*byte));
+            let n = usize::from(*byte);
+            page.pair(glyph(n / 16), glyph(n % 16));
         }
+        self.at = page.at;
     }
 }
 
@@ -86,11 +115,21 @@ fn lay<const BASE: u64>(out: &mut [u8], n: u64)
     requires { (2 ≤ BASE) × (BASE ≤ 16) }
     ensures { out.new ≡ digits_in BASE (length out.old) n }
 {
-    let glyphs = b"0123456789abcdef";
     let mut m = n;
     for i in (0..out.len()).rev() {
         // below 16: a u64 has no From into usize
-        out[i] = glyphs[(m % BASE) as usize];
+        out[i] = glyph((m % BASE) as usize);
         m /= BASE;
     }
+}
+
+// A digit, by a table.
+#[inline(always)]
+#[tactic(auto, using(crate::specs::DigitsLaws::looked_up))]
+fn glyph(d: usize) -> u8
+    requires { d < 16 }
+    ensures { result ≡ glyph_of d }
+{
+    let glyphs = b"0123456789abcdef";
+    glyphs[d]
 }

@@ -68,21 +68,19 @@ impl Time {
 
     // What is sent of this time: its timestamp, and the fraction of a nanosecond behind it, which goes into the correction
     // field, cut to 2^-16 ns. Out of range where the seconds have no place in 48 bits.
-    #[tactic(auto, unfolding(crate::specs::Units::wire_of, crate::specs::Units::time))]
+    // In words of 64 bits: the division of a u128 takes many times as long, and a master divides with each answer.
     pub fn to_wire(self) -> Result<(WireTimestamp, u16), TimeError>
         ensures { result ≡ wire_of (time self) }
     {
-        let units = self.units();
-        let nanoseconds = units >> 32;
-        let seconds = nanoseconds / 1_000_000_000;
-        if seconds < 0x1_0000_0000_0000 {
+        let Time { hi, lo } = self;
+        // a high word is 2^32 ns, so 2^16 * 10^9 of them are 2^48 seconds
+        if hi < 65_536_000_000_000 {
+            let low = hi % 1_000_000_000 * 0x1_0000_0000 + lo / 0x1_0000_0000;
+            let seconds = hi / 1_000_000_000 * 0x1_0000_0000 + low / 1_000_000_000;
             // the casts lose nothing; try_from would be no plainer, for it has an Err that never comes
-            let w = WireTimestamp {
-                seconds: seconds as u64,
-                nanos: (nanoseconds % 1_000_000_000) as u32,
-            };
-            let fraction = (units % 0x1_0000_0000 / 0x1_0000) as u16;
-            Ok((w, fraction))
+            let nanos = (low % 1_000_000_000) as u32;
+            let fraction = (lo % 0x1_0000_0000 / 0x1_0000) as u16;
+            Ok((WireTimestamp { seconds, nanos }, fraction))
         } else {
             Err(TimeError::OutOfRange)
         }

@@ -4,7 +4,6 @@ use crate::digest::{Digest, Told};
 use crate::events::{Exchange, Happening, Part};
 use port::Running;
 use record::Port;
-use std::alloc::{AllocError, Global};
 use std::fmt;
 
 // How much there was of each kind, and how much was measured.
@@ -71,10 +70,10 @@ impl fmt::Display for Counts {
 
 // What a run of a block leaves: its record, a digest for each event at the event's place, one of the measurements in their order,
 // and how many events were not answered, or did not measure, as they should.
-#[derive(Drop)]
+#[derive(Clone, Copy)]
 pub struct Ran {
     pub port: Port,
-    digests: Vec<Digest>,
+    digests: [Digest; 24],
     measured: Digest,
     wrong: usize,
 }
@@ -94,16 +93,14 @@ impl Ran {
         }
     }
 
-    // How much is wrong with two runs of a block.
+    // How much is wrong with two runs of a block. What one of them lacks differs at its place.
     pub(crate) fn differences(&self, other: &Ran) -> usize {
         let events = self.digests.iter().zip(&other.digests);
         let others = events.filter(|(a, b)| **a != **b).count();
-        let missing = self.digests.len().abs_diff(other.digests.len());
         let wrong = self.wrong.wrapping_add(other.wrong);
         let measured = usize::from(self.measured != other.measured);
         let record = usize::from(!same::same_port(self.port, other.port));
         others
-            .wrapping_add(missing)
             .wrapping_add(wrong)
             .wrapping_add(measured)
             .wrapping_add(record)
@@ -127,15 +124,10 @@ impl Side {
     }
 
     // A block from a record on.
-    pub(crate) fn run(
-        &mut self,
-        alloc: Global,
-        port: Port,
-        order: &[Happening],
-    ) -> Result<Ran, AllocError> {
+    pub(crate) fn run(&mut self, port: Port, order: &[Happening]) -> Ran {
         let mut ran = Ran {
             port,
-            digests: Vec::from_elem(alloc, Digest::new(), order.len())?,
+            digests: [Digest::new(); 24],
             measured: Digest::new(),
             wrong: 0,
         };
@@ -148,6 +140,6 @@ impl Side {
             ran.note(*event, told);
             ran.port = answer.port;
         }
-        Ok(ran)
+        ran
     }
 }

@@ -117,7 +117,10 @@ impl fmt::Display for Told<Result<u64, TimeError>> {
     }
 }
 
-// Two digits for each byte.
+// How many bytes are spelled at once. No packet here has more.
+const PIECE: usize = 128;
+
+// Two digits for each byte. A piece is handed on whole, since standard output has no buffer.
 #[derive(Clone, Copy)]
 pub(crate) struct Hex<'a>(pub(crate) &'a [u8]);
 
@@ -126,9 +129,25 @@ impl fmt::Display for Hex<'_> {
         if self.0.is_empty() {
             return write!(f, "-");
         }
-        for byte in self.0 {
-            write!(f, "{byte:02x}")?;
+        for piece in self.0.chunks(PIECE) {
+            let mut digits = [[0; 2]; PIECE];
+            let pairs = &mut digits[..piece.len().min(PIECE)];
+            for (pair, byte) in pairs.iter_mut().zip(piece) {
+                *pair = [digit(byte / 16), digit(*byte)];
+            }
+            let text = std::str::from_utf8(pairs.as_flattened());
+            f.write_str(text.map_err(|_| fmt::Error)?)?;
         }
         Ok(())
+    }
+}
+
+// The digit of a byte's low half.
+fn digit(byte: u8) -> u8 {
+    let half = byte % 16;
+    if half < 10 {
+        b'0' + half
+    } else {
+        b'a' - 10 + half
     }
 }

@@ -1,41 +1,21 @@
-use Rattle.std.proofs.Common.{rules, arith, ◌≡◌, ℕ, ◌+◌, ◌*◌, ◌<◌, List, drop, length, get_or, slice_index, slice_set, ap, ◌∙◌}
-use Rattle.std.proofs.lemmas.List.{drop-drop, get_or-drop, get_or-set_same, get_or-set_other}
-use borrow.Author.Count.{below_more}
+use Rattle.std.proofs.Common.{rules, arith, ◌≡◌, ℕ, ◌+◌, ◌*◌, ◌<◌, List, take, get_or, ap, ◌∙◌}
+use Rattle.std.proofs.lemmas.List.{get_or-take}
+use Rattle.questions.proofs.Spelled.{spelled_more}
 use Rattle.questions.specs.Digits.{digit_of, byte_at}
 use Rattle.questions.proofs.Fields.bytes.Goals as goal
 
--- two bytes from a place on
-after : (line s t : List ℕ) (n : ℕ) → s ≡ drop n line → t ≡ drop 1 s → t ≡ drop (n + 1) line
-after line s t n from cut = cut ∙ ap (drop 1) from ∙ drop-drop 1 n line
+-- the byte of two digits of the field, which is the front of the line
+byte_here : (line field : List ℕ) (n i high low : ℕ) → field ≡ take (1 + 2 * n) line → i < n → high ≡ digit_of (get_or field (1 + 2 * i) 0) → low ≡ digit_of (get_or field (2 + 2 * i) 0) → high * 16 + low ≡ byte_at line (1 + 2 * i)
+byte_here line field n i high low front within h l =
+    let first : get_or field (1 + 2 * i) 0 ≡ get_or line (1 + 2 * i) 0 = ap (λ f. get_or f (1 + 2 * i) 0) front ∙ get_or-take (1 + 2 * n) line (1 + 2 * i) 0 (omega arith) in
+    let second : get_or field (2 + 2 * i) 0 ≡ get_or line (1 + 2 * i + 1) 0 =
+    ap (λ f. get_or f (2 + 2 * i) 0) front ∙ get_or-take (1 + 2 * n) line (2 + 2 * i) 0 (omega arith) ∙ ap (λ m. get_or line m 0) (omega arith) in
+    ap (λ x. x * 16 + low) (h ∙ ap digit_of first) ∙ ap (λ y. digit_of (get_or line (1 + 2 * i) 0) * 16 + y) (l ∙ ap digit_of second)
 
-front : (line s : List ℕ) (n a : ℕ) → s ≡ drop n line → a ≡ get_or s 0 0 → a ≡ get_or line n 0
-front line s n a from first = first ∙ ap (λ l. get_or l 0 0) from ∙ get_or-drop n line 0 0 ∙ ap (λ m. get_or line m 0) (omega arith)
-
--- the byte of the two digits that come next
-byte_here : (line s t : List ℕ) (n a b high low : ℕ) → s ≡ drop n line → t ≡ drop 1 s → a ≡ get_or s 0 0 → b ≡ get_or t 0 0 → high ≡ digit_of a → low ≡ digit_of b → high * 16 + low ≡ byte_at line n
-byte_here line s t n a b high low from cut first second h l =
-    ap (λ x. x * 16 + low) (h ∙ ap digit_of (front line s n a from first))
-    ∙ ap (λ y. digit_of (get_or line n 0) * 16 + y) (l ∙ ap digit_of (front line t (n + 1) b (after line s t n from cut) second))
-
-spelled_more : (line items : List ℕ) (i v : ℕ) → i < length items → ((k : ℕ) → k < i → slice_index items k ≡ byte_at line (1 + 2 * k)) → v ≡ byte_at line (1 + 2 * i) → (k : ℕ) → k < i + 1 → slice_index (slice_set items i v) k ≡ byte_at line (1 + 2 * k)
-spelled_more line items i v within below here =
-    below_more (λ k. slice_index (slice_set items i v) k ≡ byte_at line (1 + 2 * k)) i
-    (λ k l. get_or-set_other items i k v 0 (omega (arith, l)) ∙ below k l)
-    (get_or-set_same items i v 0 within ∙ here)
-
-next_more : (line s t u : List ℕ) (i : ℕ) → s ≡ drop (1 + 2 * i) line → t ≡ drop 1 s → u ≡ drop 1 t → u ≡ drop (1 + 2 * (i + 1)) line
-next_more line s t u i from cut again =
-    after line t u (1 + 2 * i + 1) (after line s t (1 + 2 * i) from cut) again ∙ ap (λ n. drop n line) (omega arith)
-
-pub loop-byte-preserved : goal.loop-byte-preserved
-loop-byte-preserved g c =
-    let line : List ℕ = c.args.self.now.rest.now in
-    let i : ℕ = c.loop-byte.byte-index in
-    let next : c.loop-byte.self.rest.now ≡ drop (1 + 2 * i) line = c.loop-byte.invariant.next in
-    record {
-      whole = search rules;
-      spelled =
-          spelled_more line c.loop-byte.byte-items i _ (omega (arith, c.loop-byte-test.true, c.loop-byte.auto.byte-index-end, c.loop-byte.invariant.whole)) c.loop-byte.invariant.spelled
-          (byte_here line _ _ (1 + 2 * i) _ _ _ _ next c.next.ensures.rest c.next.ensures.value c.next-in-loop-byte.ensures.value c.digit-high.ensures.value c.digit-low.ensures.value);
-      next = next_more line _ _ _ i next c.next.ensures.rest c.next-in-loop-byte.ensures.rest;
-    }
+pub loop-i-preserved : goal.loop-i-preserved
+loop-i-preserved g c = record {
+  whole = search rules;
+  spelled =
+      spelled_more c.args.self.now.rest.now c.loop-i.byte-items c.loop-i.i _ (omega (arith, c.loop-i-test.true, c.loop-i.invariant.whole)) c.loop-i.invariant.spelled
+      (byte_here c.args.self.now.rest.now c.in-Some.field.now g.row.N c.loop-i.i _ _ c.in-Some.ensures.cases.1 c.loop-i-test.true c.digit.ensures.value c.digit-in-loop-i.ensures.value);
+}

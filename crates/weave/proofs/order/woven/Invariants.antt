@@ -1,5 +1,10 @@
-use Rattle.std.proofs.Common.{◌≡◌, ◌+◌, ◌++◌, IsPermutation, vec_len}
+use Rattle.std.proofs.Common.{◌≡◌, ◌+◌, ◌++◌, IsPermutation}
+use Rattle.weave.specs.Row.{happenings}
 use Rattle.weave.proofs.order.woven.Given as goal
 
 abbrev pub invariant-loop : goal.invariant-loop
-invariant-loop l = (l.counter + vec_len l.left ≡ vec_len l.block.events) × IsPermutation l.block.events.items (l.order.items ++ l.left.items)
+invariant-loop l = record {
+  left : l.counter + l.left.count ≡ l.block.events.count;
+  placed : l.order.count ≡ l.counter;
+  same : IsPermutation (happenings l.block.events) (happenings l.order ++ happenings l.left);
+}

@@ -1,0 +1,2 @@
+-- What of the gathered order is proved.
+pub mod GatheringLaws
